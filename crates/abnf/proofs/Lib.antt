@@ -1,0 +1,4 @@
+pub mod Lead
+pub mod Accepts
+pub mod Steps
+pub mod Theorems

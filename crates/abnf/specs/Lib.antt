@@ -1,0 +1,2 @@
+pub mod Abnf
+pub mod Accepts
