@@ -1,0 +1,12 @@
+pub mod Bytes
+pub mod Order
+pub mod Split
+pub mod Joins
+pub mod Repeats
+pub mod Ids
+pub mod IdGrammar
+pub mod Steps
+pub mod Utf8
+pub mod Scalars
+pub mod Rule10
+pub mod Theorems
