@@ -1,0 +1,17 @@
+pub mod Difference
+pub mod Rounding
+pub mod Bounds
+pub mod Biased
+pub mod Order
+pub mod Held
+pub mod Naturals
+pub mod Runs
+pub mod Endings
+pub mod Texts
+pub mod Signs
+pub mod IntegerText
+pub mod FloatText
+pub mod FloatReading
+pub mod Floor
+pub mod Acceptance
+pub mod Theorems

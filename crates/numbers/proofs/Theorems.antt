@@ -1,0 +1,46 @@
+-- What the crate promises beyond its contracts, in the paper's order.
+use Prim.Native.Nat.{ℕ, _+_, _*_, _^_, _<_}
+use mathlib.Core.Path.{_≡_, _∙_}
+use mathlib.Core.Logic.{_↔_}
+use mathlib.Core.List.{List}
+use mathlib.Core.Bool.{true, false, _&&_}
+use mathlib.Core.Option.{some}
+use native.Mathlib.Omega.{arith}
+use lib.Dec.{leb}
+use lib.ListN.{length}
+use lib.IntN.{ℤ, pos, negℤ, _+ℤ_, _*ℤ_}
+use lib.Signed.{leZ}
+use Rattle.abnf.specs.Abnf.{_∈_}
+use Rattle.numbers.specs.declared.decimals.Decimal.{Decimal}
+use Rattle.numbers.specs.Grammar.{integer-text, float-text}
+use Rattle.numbers.specs.Whole.{signed, between, stands}
+use Rattle.numbers.specs.Integer.{value, is64Bit, integer}
+use Rattle.numbers.specs.Step.{floorDiv}
+use Rattle.numbers.specs.Decimal.{Scientific, scientific, significant, power, decimal, exact}
+use Rattle.numbers.specs.Ratio.{ratio, leQ}
+use Rattle.numbers.proofs.Acceptance.{word-value}
+use Rattle.numbers.proofs.Difference.{le-sub, leb-eq}
+use Rattle.numbers.proofs.Floor.{floor}
+use Rattle.numbers.proofs.Order.{in-units}
+
+-- "integer: optional `-`, then digits, leading zeros allowed; value from -2^63 to 2^63-1": these texts are read, and no others
+pub integer-words : (s : List ℕ) (z : ℤ) → (integer s ≡ some z) ↔ ((s ∈ integer-text) × (is64Bit (value s) ≡ true) × (value s ≡ z))
+unfolding integer
+integer-words s z = word-value integer-text s (is64Bit (value s)) (value s) z
+
+-- numbers of the code keep the order of what they stand for
+pub stands-order : (bias a b : ℕ) → leZ (stands bias a) (stands bias b) ≡ leb a b
+stands-order bias a b = le-sub a bias b bias ∙ leb-eq (a + bias) (b + bias) a b (λ h. omega arith) (λ h. omega arith)
+
+-- "float: ..": these texts are read, and no others
+pub decimal-words : (s : List ℕ) (d : Scientific) → (decimal s ≡ some d) ↔ ((s ∈ float-text) × ((leb (length (significant s)) 18 && between (negℤ (pos 280)) (pos 280) (power s)) ≡ true) × (scientific s ≡ d))
+unfolding decimal
+decimal-words s d = word-value float-text s (leb (length (significant s)) 18 && between (negℤ (pos 280)) (pos 280) (power s)) (scientific s) d
+
+-- "Comparisons are of exact decimals": the order of the fractions is that of the whole numbers of units of 10^-300
+pub order-in-units : (a b : Decimal) → leQ (ratio (exact a)) (ratio (exact b)) ≡ leZ (signed (a .negative) (a .mantissa * 10 ^ a .exponent)) (signed (b .negative) (b .mantissa * 10 ^ b .exponent))
+order-in-units a b = in-units a b
+
+-- "floor": m·q ≤ z < m·q + m
+pub floor-is : (z : ℤ) (m : ℕ) → 0 < m → (leZ (pos m *ℤ floorDiv z m) z ≡ true) × (leZ (pos m *ℤ floorDiv z m +ℤ pos m) z ≡ false)
+floor-is z m h = floor z m h
