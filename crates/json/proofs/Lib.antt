@@ -1,0 +1,13 @@
+pub mod Bytes
+pub mod Scans
+pub mod Strings
+pub mod Numbers
+pub mod Values
+pub mod Items
+pub mod Members
+pub mod Depth
+pub mod Sound
+pub mod Complete
+pub mod Containers
+pub mod Listing
+pub mod Theorems

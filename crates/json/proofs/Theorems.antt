@@ -1,0 +1,47 @@
+-- What the reader's definition comes to, against the grammar of RFC 8259 (specs/Rfc8259.antt), over bytes. A JSON text is UTF-8 besides:
+-- that is judged apart, before (crate text, `isUtf8`), and no theorem here speaks of it.
+use Prim.Native.Nat.{ℕ, _≤_}
+use mathlib.Core.Path.{_≡_}
+use mathlib.Core.Logic.{_↔_}
+use mathlib.Core.Bool.{true}
+use mathlib.Core.List.{List}
+use lib.ListN.{length}
+use Rattle.abnf.proofs.Lead.{whole-lead, lead-whole}
+use Rattle.json.specs.Bytes.{byte}
+use Rattle.json.specs.Value.{valueAt, documentOf, isContainer}
+use Rattle.json.specs.Members.{membersAt, elementsAt}
+use Rattle.json.specs.Rfc8259 as G
+use Rattle.json.specs.Listing.{StandsWithin, IsMember, IsElement, Holds}
+use Rattle.json.specs.declared.Scan.the-variants.{End}
+use Rattle.json.proofs.Sound.{sound}
+use Rattle.json.proofs.Complete.{complete}
+use Rattle.json.proofs.Listing.{value-within, raise, object-members, array-elements}
+use Rattle.json.proofs.Containers.{container-reads, container-read, ends}
+
+-- The reader takes exactly the byte strings of RFC 8259's grammar that are nested at most 16 deep.
+pub reads-json : (s : List ℕ) → (documentOf s ≡ End (length s)) ↔ G.JSON 16 s
+reads-json s = (λ e. lead-whole G.rules 16 G.JSON-text (sound s e), λ w. complete s (whole-lead G.rules 16 G.JSON-text w))
+
+-- Where it answers `End`, that is the text's length.
+pub reads-whole : (s : List ℕ) (e : ℕ) → documentOf s ≡ End e → e ≡ length s
+reads-whole s e q = ends s e q
+
+-- What it takes for a container is exactly one array or object with white space around, nested at most 16 deep.
+pub reads-container : (s : List ℕ) → (isContainer s ≡ true) ↔ G.Container 16 s
+reads-container s = (container-reads s, container-read s)
+
+-- A value that it finds within a text is one of the grammar's, nested at most so deep.
+pub reads-value : (s : List ℕ) (d at e : ℕ) → valueAt d s at ≡ End e → StandsWithin d s at G.value e
+reads-value s d at e q = value-within s d at e q
+
+-- And a value stays one where deeper nesting is allowed.
+pub reads-deeper : (s : List ℕ) (d n at e : ℕ) → d ≤ n → valueAt d s at ≡ End e → valueAt n s at ≡ End e
+reads-deeper s d n at e h q = raise s d n at e h q
+
+-- The members of an object that the reader takes are the grammar's: between its braces stand just these, in this order.
+pub reads-members : (s : List ℕ) (at e : ℕ) → byte s at ≡ 0x7B → valueAt 16 s at ≡ End e → Holds s 0x7B 0x7D (IsMember s) at (membersAt s at) e
+reads-members s at e b q = object-members s at e b q
+
+-- So are the elements of an array.
+pub reads-elements : (s : List ℕ) (at e : ℕ) → byte s at ≡ 0x5B → valueAt 16 s at ≡ End e → Holds s 0x5B 0x5D (IsElement s) at (elementsAt s at) e
+reads-elements s at e b q = array-elements s at e b q

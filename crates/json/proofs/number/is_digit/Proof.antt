@@ -1,0 +1,14 @@
+use Rattle.json.specs.Number.{isDigit}
+use borrow.Author.Needs.{needs}
+use Rattle.json.proofs.number.is_digit.Statement.{statement}
+use Rattle.json.proofs.number.is_digit.Tie as tie
+
+in-range-requires : tie.Need-in-range-requires
+in-range-requires c κs = search needs
+
+returns : tie.Need-returns
+unfolding isDigit
+returns c = c .in-range .ensures
+
+pub is-digit-spec : {M : Type 1} → statement M
+is-digit-spec = tie.close (tie.spec in-range-requires returns)

@@ -1,0 +1,8 @@
+pub mod Bytes
+pub mod Strings
+pub mod Number
+pub mod Value
+pub mod Members
+pub mod Rfc8259
+pub mod Listing
+pub mod Examples
