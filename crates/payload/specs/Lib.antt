@@ -1,0 +1,5 @@
+pub mod Datatypes
+pub mod Colors
+pub mod Formats
+pub mod Payloads
+pub mod Parts

@@ -1,0 +1,44 @@
+use Prim.Native.Nat.{_^_}
+use mathlib.Core.Path.{sym, ap, _∙_}
+use lib.Signed.{leZ}
+use Rattle.numbers.specs.Step.{limit}
+use Rattle.numbers.proofs.Theorems.{stands-order}
+use Rattle.ranges.proofs.Reading.{both-bounds, no-max, no-min}
+use borrow.Author.Needs.{needs}
+use Rattle.ranges.proofs.integer_ordered.Statement.{statement}
+use Rattle.ranges.proofs.integer_ordered.Tie as tie
+use Rattle.ranges.proofs.integer_ordered.Reads as reads
+use Rattle.ranges.proofs.integer_ordered.Lts as lts
+
+-- src/lib.rt:84:19
+enum-known-min : tie.Need-enum-known-min
+enum-known-min c = search needs
+
+-- src/lib.rt:85:23
+enum-known-max : tie.Need-enum-known-max
+enum-known-max c = search needs
+
+-- src/lib.rt:86:28
+enum-told : tie.Need-enum-told
+enum-told c = search needs
+
+-- src/lib.rt:88:24
+enum-told-2 : tie.Need-enum-told-2
+enum-told-2 c = search needs
+
+-- src/lib.rt:80:1
+returns : tie.Need-returns
+returns c = both-bounds leZ (ap (limit (2 ^ 63)) (c .before .before .before .before .min .given .1)) (ap (limit (2 ^ 63)) (c .before .max .given .1)) (sym (stands-order (2 ^ 63) (c .before .before .before .before .min .given .0 .0) (c .before .max .given .0 .0)))
+
+-- src/lib.rt:80:1
+returns-2 : tie.Need-returns-2
+returns-2 c = no-max leZ (ap (limit (2 ^ 63)) (c .before .before .before .min .given .1)) (ap (limit (2 ^ 63)) (c .enum-told .given .1))
+
+-- src/lib.rt:80:1
+returns-3 : tie.Need-returns-3
+returns-3 c = no-min leZ _ (ap (limit (2 ^ 63)) (c .enum-told2 .given .1))
+
+pub integer-ordered-spec : {M : Type 1} → statement M
+integer-ordered-spec =
+    tie.close
+    (tie.spec enum-known-min enum-known-max enum-told enum-told-2 returns returns-2 returns-3)

@@ -1,0 +1,3 @@
+pub mod Datetime
+pub mod Duration
+pub mod Parts
