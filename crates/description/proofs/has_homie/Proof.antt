@@ -1,0 +1,50 @@
+use borrow.Author.Tests.{not-true, not-false}
+use Rattle.description.proofs.Device.{homie-absent, homie-twice, homie-no-text, homie-text}
+use borrow.Author.Needs.{needs}
+use Rattle.description.proofs.has_homie.Statement.{statement}
+use Rattle.description.proofs.has_homie.Tie as tie
+
+enum-told : tie.Need-enum-told
+enum-told c = search needs
+
+enum-known-f : tie.Need-enum-known-f
+enum-known-f c = search needs
+
+is-text-requires : tie.Need-is-text-requires
+is-text-requires c κs = search needs
+
+returns : tie.Need-returns
+returns c = homie-no-text _ (c .before .before .before .f .given .1) (c .before .is-text .ensures) (not-true _ (c .if1 .taken))
+
+text-at-requires : tie.Need-text-at-requires
+text-at-requires c κs = search needs
+
+is-homie-requires : tie.Need-is-homie-requires
+is-homie-requires c κs = search needs
+
+enum-told-2 : tie.Need-enum-told-2
+enum-told-2 c = search needs
+
+returns-2 : tie.Need-returns-2
+returns-2 c = homie-absent _ (c .enum-told .given .1)
+
+returns-3 : tie.Need-returns-3
+returns-3 c = homie-text _ (c .before .before .before .before .before .f .given .1) (c .before .before .before .is-text .ensures) (not-false _ (c .before .before .if1 .left)) (c .before .text-at .ensures) (c .is-homie .ensures)
+
+returns-4 : tie.Need-returns-4
+returns-4 c = homie-twice _ (c .enum-told2 .given .1)
+
+pub has-homie-spec : {M : Type 1} → statement M
+has-homie-spec =
+    tie.close
+    (tie.spec
+    enum-told
+    enum-known-f
+    is-text-requires
+    returns
+    text-at-requires
+    is-homie-requires
+    enum-told-2
+    returns-2
+    returns-3
+    returns-4)

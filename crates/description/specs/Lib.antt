@@ -1,0 +1,3 @@
+pub mod Names
+pub mod Description
+pub mod Meaning

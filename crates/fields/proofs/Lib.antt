@@ -1,0 +1,4 @@
+pub mod Walk
+pub mod Values
+pub mod Fields
+pub mod Rules

@@ -1,0 +1,37 @@
+-- A list of rules, judged one after another.
+use mathlib.Core.Path.{_≡_, refl, sym, ap, _∙_}
+use mathlib.Core.List.{List, [], _∷_, _++_}
+use mathlib.Core.Bool.{Bool, true, false, _&&_}
+use Rattle.fields.specs.Fields.{holds}
+
+module _ (rs : List Bool) {r a : Bool} (p : r ≡ a) where
+  pub broken : r ≡ false → false ≡ holds (a ∷ rs)
+  unfolding holds
+  broken e = rw (sym p ∙ e, holds)
+
+  pub kept : {q : Bool} → r ≡ true → q ≡ holds rs → q ≡ holds (a ∷ rs)
+  unfolding holds
+  kept e x = x ∙ rw (sym p ∙ e, holds)
+
+-- one rule alone
+pub last : {r a : Bool} → r ≡ a → r ≡ holds (a ∷ [])
+unfolding holds
+last {r} {a} p = p ∙ go a
+  where
+    go : (b : Bool) → b ≡ holds (b ∷ [])
+    go true = refl
+    go false = refl
+
+-- the rules of two lists
+pub holds-append : (rs bs : List Bool) → holds (rs ++ bs) ≡ (holds rs && holds bs)
+unfolding holds
+holds-append [] bs = refl
+holds-append (true ∷ rs) bs = holds-append rs bs
+holds-append (false ∷ rs) bs = refl
+
+module _ {r : Bool} (rs bs : List Bool) (p : r ≡ holds rs) where
+  pub some-broken : r ≡ false → false ≡ holds (rs ++ bs)
+  some-broken e = sym (holds-append rs bs ∙ rw (sym p ∙ e))
+
+  pub all-kept : {q : Bool} → r ≡ true → q ≡ holds bs → q ≡ holds (rs ++ bs)
+  all-kept e x = x ∙ sym (holds-append rs bs ∙ rw (sym p ∙ e))

@@ -1,0 +1,70 @@
+-- Walking through an object's members or an array's elements, one step a turn.
+use Prim.Native.Nat.{ℕ, zero, suc, _+_, _-_, _≤_, _<_}
+use native.Mathlib.Omega.{arith}
+use mathlib.Core.Path.{_≡_, refl, sym, ap, _∙_, subst}
+use mathlib.Core.List.{List, [], _∷_}
+use mathlib.Core.Bool.{Bool, true, false}
+use lib.ListN.{length}
+use lib.Dec.{eqb}
+use borrow.Author.Tests.{ne-eqb, eq-eqb}
+use Rattle.json.specs.Bytes.{byte, ws}
+use Rattle.json.specs.Members.{Member, memberAt, elementAt, listFrom, GotItem}
+use Rattle.json.proofs.Members.{Going, walk, walked, walk-members, walk-elements}
+use Rattle.json.specs.declared.Item.{Item}
+use Rattle.json.specs.declared.Item.the-variants.{At, Done}
+use Rattle.fields.specs.Values.{isObject, isArray, members, elements, all}
+
+-- f of all the items is f of those from i on, which lies in the text
+pub record Walking {X : Type 0} (step : ℕ → Item) (f : List Member → X) (len i : ℕ) (want : X) : Type 0 where
+  pub within : i ≤ len
+  pub going : Going step f len i want
+
+module _ {X : Type 0} (step : ℕ → Item) (f : List Member → X) (len i : ℕ) {want : X} (g : Walking step f len i want) where
+  pub at-done : step i ≡ Done → f [] ≡ want
+  at-done q = walked step f len i (g .within) (g .going) q
+
+  -- the next turn: f with this item put in front
+  pub at-item : {k e n : ℕ} → GotItem (step i) i len (At k e n) → Walking step (λ ms. f (record { name = i; value = k; end = e } ∷ ms)) len n want
+  at-item w = let l = w .lies in record { within = l .3; going = walk step f len i (g .within) (g .going) (sym (w .is)) (omega arith) }
+
+-- another f that agrees on what is left
+pub walking-as : {X : Type 0} {step : ℕ → Item} {f : List Member → X} {len i : ℕ} {want : X} (g : List Member → X) → ((ms : List Member) → g ms ≡ f ms) → Walking step f len i want → Walking step g len i want
+walking-as {X} {step} {f} {len} {i} g e w =
+    record { within = w .within; going = record { fuel = w .going .fuel; enough = w .going .enough; same = e (listFrom step (w .going .fuel) i) ∙ w .going .same } }
+
+-- falls with each turn
+pub falls : {len i k e n : ℕ} {want : Item} → GotItem want i len (At k e n) → len - n < len - i
+falls w = let l = w .lies in omega arith
+
+module _ {X : Type 0} (f : List Member → X) (s : List ℕ) (at : ℕ) {b : ℕ} (p : b ≡ byte s at) where
+  pub no-members : (b ≡ 123 → ⊥) → f [] ≡ f (members s at)
+  unfolding members isObject
+  no-members n = ap f (sym (rw (ne-eqb (byte s at) 123 (λ q. n (p ∙ q)), members)))
+
+  pub first-member : {i : ℕ} → b ≡ 123 → i ≡ ws s (at + 1) → i ≤ length s → Walking (memberAt s) f (length s) i (f (members s at))
+  unfolding members isObject
+  first-member {i} e q h = record { within = h; going = rw (eq-eqb (byte s at) 123 (sym p ∙ e), members) (walk-members f s at i q) }
+
+  pub no-elements : (b ≡ 91 → ⊥) → f [] ≡ f (elements s at)
+  unfolding elements isArray
+  no-elements n = ap f (sym (rw (ne-eqb (byte s at) 91 (λ q. n (p ∙ q)), elements)))
+
+  pub first-element : {i : ℕ} → b ≡ 91 → i ≡ ws s (at + 1) → i ≤ length s → Walking (elementAt s) f (length s) i (f (elements s at))
+  unfolding elements isArray
+  first-element {i} e q h = record { within = h; going = rw (eq-eqb (byte s at) 91 (sym p ∙ e), elements) (walk-elements f s at i q) }
+
+-- ---- every item passes a test
+
+module _ (step : ℕ → Item) (test : Member → Bool) (len i : ℕ) {want : Bool} (g : Walking step (all test) len i want) where
+  pub all-done : step i ≡ Done → true ≡ want
+  unfolding all
+  all-done q = at-done step (all test) len i g q
+
+  module _ {k e n : ℕ} (w : GotItem (step i) i len (At k e n)) {b : Bool} (p : b ≡ test (record { name = i; value = k; end = e })) where
+    pub all-no : b ≡ false → false ≡ want
+    unfolding all
+    all-no x = let t = at-item step (all test) len i g w in sym (rw (sym p ∙ x, all)) ∙ t .going .same
+
+    pub all-yes : b ≡ true → Walking step (all test) len n want
+    unfolding all
+    all-yes x = walking-as (all test) (λ ms. sym (rw (sym p ∙ x, all))) (at-item step (all test) len i g w)

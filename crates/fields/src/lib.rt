@@ -1,0 +1,237 @@
+// The values of a JSON text, and the known fields of its objects.
+use json::Item;
+use json::Scan;
+ghost use mathlib.Core.Path.{_≡_};
+ghost use Rattle.text.specs.Bytes.{part};
+ghost use Rattle.fields.specs.Values.{bytesAt, textAt, isText, isObject, isArray, isTrue, isFlag, isPlain, isIdText, arrayOf, ofKind};
+ghost use Rattle.fields.specs.Parts.{itemTest};
+ghost use Rattle.fields.specs.Fields.{oneMore, field, optional, flagIn, plainNames};
+
+// What a known field may hold.
+pub enum Kind {
+    Text,
+    Flag,
+    Object,
+    Id,
+    Ids,
+    Texts,
+}
+
+// A name in an object: no member has it, one, with its value's place, or more.
+pub enum Field {
+    Absent,
+    One(usize),
+    Twice,
+}
+
+// The bytes from a place up to another, as far as there are any.
+pub fn slice(s: &[u8], a: usize, e: usize) -> &[u8]
+    ensures { λ r. ⌜ now r ≡ part (now (s .entry)) a e ⌝ }
+{
+    if e < a {
+        return &s[..0];
+    }
+    if e <= s.len() {
+        return &s[a..e];
+    }
+    if a <= s.len() {
+        return &s[a..];
+    }
+    &s[..0]
+}
+
+// The bytes of the value at `k`.
+pub fn bytes_at(s: &[u8], k: usize) -> &[u8]
+    ensures { λ r. ⌜ now r ≡ bytesAt (now (s .entry)) k ⌝ }
+{
+    match json::value(s, k, 16) {
+        Scan::Bad(_) => &s[..0],
+        Scan::End(e) => slice(s, k, e),
+    }
+}
+
+// The bytes between the quotes of the string at `k`.
+pub fn text_at(s: &[u8], k: usize) -> &[u8]
+    ensures { λ r. ⌜ now r ≡ textAt (now (s .entry)) k ⌝ }
+{
+    match json::value(s, k, 16) {
+        Scan::Bad(_) => &s[..0],
+        Scan::End(e) => slice(s, k + 1, e - 1),
+    }
+}
+
+pub fn is_text(s: &[u8], k: usize) -> bool
+    ensures { λ r. ⌜ r ≡ isText (now (s .entry)) k ⌝ }
+{
+    json::peek(s, k) == 34
+}
+
+pub fn is_object(s: &[u8], k: usize) -> bool
+    ensures { λ r. ⌜ r ≡ isObject (now (s .entry)) k ⌝ }
+{
+    json::peek(s, k) == 123
+}
+
+fn is_true(s: &[u8], k: usize) -> bool
+    ensures { λ r. ⌜ r ≡ isTrue (now (s .entry)) k ⌝ }
+{
+    json::peek(s, k) == 116
+}
+
+fn is_flag(s: &[u8], k: usize) -> bool
+    ensures { λ r. ⌜ r ≡ isFlag (now (s .entry)) k ⌝ }
+{
+    if is_true(s, k) {
+        return true;
+    }
+    json::peek(s, k) == 102
+}
+
+// Whether the bytes have no backslash.
+pub fn is_plain(s: &[u8]) -> bool
+    ensures { λ r. ⌜ r ≡ isPlain (now (s .entry)) ⌝ }
+{
+    let mut i = 0;
+    while i < s.len() {
+        if s[i] == 92 {
+            return false;
+        }
+        i += 1;
+    }
+    true
+}
+
+// Whether an ID stands at `k`, as a string.
+fn is_id_text(s: &[u8], k: usize) -> bool
+    ensures { λ r. ⌜ r ≡ isIdText (now (s .entry)) k ⌝ }
+{
+    if is_text(s, k) {
+        return text::is_id(text_at(s, k));
+    }
+    false
+}
+
+fn one_more(seen: Field, k: usize) -> Field
+    ensures { λ r. ⌜ r ≡ oneMore seen k ⌝ }
+{
+    match seen {
+        Field::Absent => Field::One(k),
+        Field::One(_) => Field::Twice,
+        Field::Twice => Field::Twice,
+    }
+}
+
+// The field of that name in the object at `at`.
+pub fn lookup(s: &[u8], at: usize, name: &[u8]) -> Field
+    ensures { λ r. ⌜ r ≡ field (now (s .entry)) at (now (name .entry)) ⌝ }
+{
+    let mut seen = Field::Absent;
+    if json::peek(s, at) != 123 {
+        return seen;
+    }
+    let mut i = json::skip(s, at + 1);
+    loop {
+        match json::member_at(s, i) {
+            Item::Done => return seen,
+            Item::At(k, _, n) => {
+                if text::same(text_at(s, i), name) {
+                    seen = one_more(seen, k);
+                }
+                i = n;
+            }
+        }
+    }
+}
+
+// Whether no name in the object at `at` has a backslash.
+pub fn plain_names(s: &[u8], at: usize) -> bool
+    ensures { λ r. ⌜ r ≡ plainNames (now (s .entry)) at ⌝ }
+{
+    if json::peek(s, at) != 123 {
+        return true;
+    }
+    let mut i = json::skip(s, at + 1);
+    loop {
+        match json::member_at(s, i) {
+            Item::Done => return true,
+            Item::At(_, _, n) => {
+                if !is_plain(text_at(s, i)) {
+                    return false;
+                }
+                i = n;
+            }
+        }
+    }
+}
+
+fn is_item(s: &[u8], k: usize, ids: bool) -> bool
+    ensures { λ r. ⌜ r ≡ itemTest ids (now (s .entry)) k ⌝ }
+{
+    if ids {
+        return is_id_text(s, k);
+    }
+    is_text(s, k)
+}
+
+// Whether an array stands at `at`, of IDs or of strings.
+fn is_array_of(s: &[u8], at: usize, ids: bool) -> bool
+    ensures { λ r. ⌜ r ≡ arrayOf (itemTest ids) (now (s .entry)) at ⌝ }
+{
+    if json::peek(s, at) != 91 {
+        return false;
+    }
+    let mut i = json::skip(s, at + 1);
+    loop {
+        match json::element_at(s, i) {
+            Item::Done => return true,
+            Item::At(k, _, n) => {
+                if !is_item(s, k, ids) {
+                    return false;
+                }
+                i = n;
+            }
+        }
+    }
+}
+
+fn is_of_kind(s: &[u8], k: usize, kind: Kind) -> bool
+    ensures { λ r. ⌜ r ≡ ofKind kind (now (s .entry)) k ⌝ }
+{
+    match kind {
+        Kind::Text => is_text(s, k),
+        Kind::Flag => is_flag(s, k),
+        Kind::Object => is_object(s, k),
+        Kind::Id => is_id_text(s, k),
+        Kind::Ids => is_array_of(s, k, true),
+        Kind::Texts => is_array_of(s, k, false),
+    }
+}
+
+// Whether a field stands at most once, and then holds a value of that kind.
+fn is_optional(s: &[u8], f: Field, kind: Kind) -> bool
+    ensures { λ r. ⌜ r ≡ optional kind (now (s .entry)) f ⌝ }
+{
+    match f {
+        Field::Absent => true,
+        Field::One(k) => is_of_kind(s, k, kind),
+        Field::Twice => false,
+    }
+}
+
+// Whether the field of that name in the object at `at` stands at most once, and then holds a value of that kind.
+pub fn has_optional(s: &[u8], at: usize, name: &[u8], kind: Kind) -> bool
+    ensures { λ r. ⌜ r ≡ optional kind (now (s .entry)) (field (now (s .entry)) at (now (name .entry))) ⌝ }
+{
+    is_optional(s, lookup(s, at, name), kind)
+}
+
+// The boolean that a field holds, or what holds where it is absent.
+pub fn flag_in(s: &[u8], f: Field, default: bool) -> bool
+    ensures { λ r. ⌜ r ≡ flagIn (now (s .entry)) default f ⌝ }
+{
+    match f {
+        Field::Absent => default,
+        Field::One(k) => is_true(s, k),
+        Field::Twice => default,
+    }
+}

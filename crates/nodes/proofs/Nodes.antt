@@ -1,0 +1,129 @@
+-- What each way through the code shows of nodes and their properties.
+use Prim.Native.Nat.{ℕ, _+_, _≤_}
+use mathlib.Core.Path.{_≡_, refl, sym, ap, _∙_, subst}
+use mathlib.Core.List.{List, [], _∷_, _++_}
+use mathlib.Core.Bool.{Bool, true, false, not}
+use mathlib.Core.Option.{Option, none, some}
+use lib.ListN.{length}
+use Rattle.text.specs.Ids.{isId}
+use Rattle.json.specs.Bytes.{byte, ws}
+use Rattle.json.specs.Members.{Member, memberAt, GotItem}
+use Rattle.json.specs.declared.Item.{Item}
+use Rattle.json.specs.declared.Item.the-variants.{At, Done}
+use Rattle.fields.specs.Values.{textAt, members, all}
+use Rattle.fields.specs.Fields.{holds, field, isTwice, membersIn}
+use Rattle.fields.specs.declared.Field.{Field}
+use Rattle.fields.specs.declared.Field.the-variants.{Absent, One, Twice}
+use Rattle.fields.proofs.Walk.{Walking, walking-as, at-done, at-item, no-members, first-member}
+use Rattle.fields.proofs.Rules.{broken, kept, last}
+use Rattle.properties.specs.Property.{Property, propertyAt}
+use Rattle.properties.specs.Entries.{put, putAll, collected}
+use Rattle.properties.proofs.Collection.{put-all-append, collects}
+use Rattle.nodes.specs.Names.{properties}
+use Rattle.nodes.specs.Nodes.{idRules, each, propertiesAmong, propertiesOf}
+
+-- ---- an ID that no other member has
+
+module _ (s : List ℕ) (at i : ℕ) {t : List ℕ} {b : Bool} (p : t ≡ textAt s i) (q : b ≡ isId t) where
+  pub id-no : b ≡ false → false ≡ holds (idRules s at i)
+  unfolding idRules
+  id-no e = broken _ (q ∙ ap isId p) e
+
+  module _ (e : b ≡ true) {u : List ℕ} {f : Field} (x : u ≡ textAt s i) (y : f ≡ field s at u) where
+    found : f ≡ field s at (textAt s i)
+    found = y ∙ ap (field s at) x
+
+    pub id-once : {r : Bool} → r ≡ not (isTwice f) → r ≡ holds (idRules s at i)
+    unfolding idRules
+    id-once z = kept _ (q ∙ ap isId p) e (last (z ∙ ap (λ (g : Field). not (isTwice g)) found))
+
+module _ {f : Field} where
+  pub once-absent : f ≡ Absent → true ≡ not (isTwice f)
+  unfolding isTwice
+  once-absent q = rw q
+
+  pub once-one : {k : ℕ} → f ≡ One k → true ≡ not (isTwice f)
+  unfolding isTwice
+  once-one q = rw q
+
+  pub once-twice : f ≡ Twice → false ≡ not (isTwice f)
+  unfolding isTwice
+  once-twice q = rw q
+
+-- ---- the members of a field's object
+
+module _ (rules : ℕ → Member → List Bool) (s : List ℕ) {f : Field} where
+  pub each-absent : f ≡ Absent → true ≡ each rules s f
+  unfolding each
+  each-absent q = rw q
+
+  pub each-one : {k : ℕ} {r : Bool} → f ≡ One k → r ≡ all (λ m. holds (rules k m)) (members s k) → r ≡ each rules s f
+  unfolding each
+  each-one q x = rw q x
+
+  pub each-twice : f ≡ Twice → true ≡ each rules s f
+  unfolding each
+  each-twice q = rw q
+
+-- ---- lists that grow with each member
+
+module _ (add : List Member → List Property) (s : List ℕ) (at : ℕ) {b : ℕ} (p : b ≡ byte s at) (l : Option (List Property)) where
+  pub adds-none : add [] ≡ [] → (b ≡ 123 → ⊥) → l ≡ putAll (add (members s at)) l
+  unfolding putAll
+  adds-none z n = sym (ap (λ (ps : List Property). putAll ps l) z) ∙ no-members (λ ms. putAll (add ms) l) s at p n
+
+  pub adds-first : {i : ℕ} → b ≡ 123 → i ≡ ws s (at + 1) → i ≤ length s → Walking (memberAt s) (λ ms. putAll (add ms) l) (length s) i (putAll (add (members s at)) l)
+  adds-first e q h = first-member (λ ms. putAll (add ms) l) s at p e q h
+
+module _ (add : List Member → List Property) (s : List ℕ) (i : ℕ) (l : Option (List Property)) {want : Option (List Property)} (g : Walking (memberAt s) (λ ms. putAll (add ms) l) (length s) i want) where
+  pub adds-done : add [] ≡ [] → memberAt s i ≡ Done → l ≡ want
+  unfolding putAll
+  adds-done z q = sym (ap (λ (ps : List Property). putAll ps l) z) ∙ at-done (memberAt s) (λ ms. putAll (add ms) l) (length s) i g q
+
+  -- the member adds ps
+  pub adds-more : {k e n : ℕ} {l′ : Option (List Property)} (ps : List Property) → GotItem (memberAt s i) i (length s) (At k e n) → ((ms : List Member) → add (record { name = i; value = k; end = e } ∷ ms) ≡ ps ++ add ms)
+      → l′ ≡ putAll ps l → Walking (memberAt s) (λ ms. putAll (add ms) l′) (length s) n want
+  adds-more {k} {e} {n} {l′} ps w z x = walking-as (λ ms. putAll (add ms) l′)
+      (λ ms. ap (putAll (add ms)) x ∙ sym (put-all-append ps (add ms) l) ∙ ap (λ (qs : List Property). putAll qs l) (sym (z ms)))
+      (at-item (memberAt s) (λ ms. putAll (add ms) l) (length s) i g w)
+
+-- ---- a node's properties, and the nodes'
+
+pub among-none : (s : List ℕ) (node : ℕ) → propertiesAmong s node [] ≡ []
+unfolding propertiesAmong
+among-none s node = refl
+
+pub among-more : (s : List ℕ) (node i k e : ℕ) (ms : List Member) → propertiesAmong s node (record { name = i; value = k; end = e } ∷ ms) ≡ (propertyAt s node i k ∷ []) ++ propertiesAmong s node ms
+unfolding propertiesAmong
+among-more s node i k e ms = refl
+
+pub of-none : (s : List ℕ) → propertiesOf s [] ≡ []
+unfolding propertiesOf
+of-none s = refl
+
+pub of-more : (s : List ℕ) (i k e : ℕ) (ms : List Member) → propertiesOf s (record { name = i; value = k; end = e } ∷ ms) ≡ propertiesAmong s i (membersIn s (field s k properties)) ++ propertiesOf s ms
+unfolding propertiesOf
+of-more s i k e ms = refl
+
+-- one property is put in
+pub put-one : {p q : Property} (l : Option (List Property)) {l′ : Option (List Property)} → p ≡ q → l′ ≡ put p l → l′ ≡ putAll (q ∷ []) l
+unfolding putAll
+put-one l e x = x ∙ ap (λ (r : Property). put r l) e
+
+-- by the field's case
+module _ (add : List Member → List Property) (z : add [] ≡ []) (s : List ℕ) {f g : Field} (e : f ≡ g) (l : Option (List Property)) where
+  pub in-absent : f ≡ Absent → l ≡ putAll (add (membersIn s g)) l
+  unfolding membersIn putAll
+  in-absent q = sym (ap (λ (h : Field). putAll (add (membersIn s h)) l) (sym e ∙ q) ∙ ap (λ (ps : List Property). putAll ps l) z)
+
+  pub in-twice : f ≡ Twice → l ≡ putAll (add (membersIn s g)) l
+  unfolding membersIn putAll
+  in-twice q = sym (ap (λ (h : Field). putAll (add (membersIn s h)) l) (sym e ∙ q) ∙ ap (λ (ps : List Property). putAll ps l) z)
+
+  pub in-one : {k : ℕ} {r : Option (List Property)} → f ≡ One k → r ≡ putAll (add (members s k)) l → r ≡ putAll (add (membersIn s g)) l
+  unfolding membersIn
+  in-one q x = x ∙ sym (ap (λ (h : Field). putAll (add (membersIn s h)) l) (sym e ∙ q))
+
+-- put into no properties
+pub from-empty : (ps : List Property) (l : Option (List Property)) {r : Option (List Property)} → l ≡ some [] → r ≡ putAll ps l → r ≡ collected ps
+from-empty ps l e x = x ∙ ap (putAll ps) e ∙ collects ps

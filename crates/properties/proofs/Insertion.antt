@@ -1,0 +1,186 @@
+-- Laws of the order and of the insertion.
+use Prim.Native.Nat.{ℕ, zero, suc, _+_, _-_, _≤_, _<_}
+use native.Mathlib.Nat.{sub-zero}
+use native.Mathlib.Numerals.{add-one}
+use native.Mathlib.Omega.{arith}
+use mathlib.Core.Path.{_≡_, refl, sym, ap, _∙_, subst}
+use mathlib.Core.List.{List, [], _∷_, _++_}
+use mathlib.Core.Bool.{Bool, true, false, _||_, _&&_, true≢false}
+use mathlib.Core.Option.{Option, none, some}
+use lib.ListN.{length, take, drop, getD, set, length-take, length-set}
+use lib.Dec.{leb, ltb}
+use lib.Seq.{drop-cons, take-suc, take-suc-set, drop-set-lt, append-snoc}
+use borrow.Author.Tests.{lt-ltb, le-ltb, leb-true, leb-false}
+use Rattle.text.specs.Bytes.{eqBytes, lessBytes}
+use Rattle.text.proofs.Bytes.{both}
+use Rattle.fields.specs.Values.{textAt}
+use Rattle.properties.specs.declared.Entry.{Entry}
+use Rattle.properties.specs.declared.Entries.{Entries}
+use Rattle.properties.specs.Property.{Property, isBefore, insert}
+use Rattle.properties.specs.Entries.{content, contents, view, put}
+
+-- ---- the order
+
+module _ (s : List ℕ) (x y : Entry) {a b : List ℕ} (p : a ≡ textAt s (x .node)) (q : b ≡ textAt s (y .node)) {l : Bool} (e : l ≡ lessBytes a b) where
+  less : l ≡ lessBytes (textAt s (x .node)) (textAt s (y .node))
+  less = e ∙ rw (p, q)
+
+  pub before-yes : l ≡ true → true ≡ isBefore (content s x) (content s y)
+  unfolding isBefore content
+  before-yes h = rw (sym less ∙ h)
+
+  module _ (h : l ≡ false) {c d : List ℕ} (p₂ : c ≡ textAt s (x .node)) (q₂ : d ≡ textAt s (y .node)) {m : Bool} (f : m ≡ eqBytes c d) where
+    eq : m ≡ eqBytes (textAt s (x .node)) (textAt s (y .node))
+    eq = f ∙ rw (p₂, q₂)
+
+    pub before-no : m ≡ false → false ≡ isBefore (content s x) (content s y)
+    unfolding isBefore content
+    before-no k = rw (sym less ∙ h, sym eq ∙ k)
+
+    pub before-ids : {t u : List ℕ} {r : Bool} → m ≡ true → t ≡ textAt s (x .id) → u ≡ textAt s (y .id) → r ≡ lessBytes t u → r ≡ isBefore (content s x) (content s y)
+    unfolding isBefore content
+    before-ids k v w z = z ∙ rw (sym less ∙ h, sym eq ∙ k, v, w)
+
+pub placed-yes : (a b : Bool) → a ≡ true → true ≡ (a || b)
+placed-yes a b e = rw e
+
+pub placed-no : (a b r : Bool) → a ≡ false → r ≡ b → r ≡ (a || b)
+placed-no a b r e q = rw e q
+
+-- ---- the insertion: the entries before j are in place, the carried one goes in among the rest
+
+-- what is to come: the carried entry at once, or in its place
+unfoldable pub rest : List ℕ → Bool → Entry → List Entry → List Property
+rest s true e l = content s e ∷ contents s l
+rest s false e l = insert (content s e) (contents s l)
+
+pub record Carrying (s : List ℕ) (n : ℕ) (want : List Property) (items : List Entry) (carry : Entry) (placed : Bool) (j : ℕ) : Type 0 where
+  pub small : j ≤ n
+  pub room : n < 24
+  pub long : length items ≡ 24
+  pub same : contents s (take j items) ++ rest s placed carry (take (n - j) (drop j items)) ≡ want
+
+pub contents-append : (s : List ℕ) (l m : List Entry) → contents s (l ++ m) ≡ contents s l ++ contents s m
+unfolding contents
+contents-append s [] m = refl
+contents-append s (e ∷ l) m = ap (λ (k : List Property). content s e ∷ k) (contents-append s l m)
+
+pub contents-length : (s : List ℕ) (l : List Entry) → length (contents s l) ≡ length l
+unfolding contents
+contents-length s [] = refl
+contents-length s (e ∷ l) = ap suc (contents-length s l)
+
+pub carry-start : (s : List ℕ) (n : ℕ) (items : List Entry) (e : Entry) → n < 24 → length items ≡ 24 → Carrying s n (insert (content s e) (contents s (take n items))) items e false 0
+unfolding rest contents
+carry-start s n items e h l = record { small = omega arith; room = h; long = l; same = ap (λ (k : ℕ). insert (content s e) (contents s (take k items))) (sub-zero n) }
+
+module _ (blank : Entry) (s : List ℕ) (n : ℕ) (want : List Property) (items : List Entry) (carry : Entry) (placed : Bool) (j : ℕ) (w : Carrying s n want items carry placed j) where
+  module _ (h : j < n) where
+    -- the rest begins with the element at j
+    next : take (n - j) (drop j items) ≡ getD items j blank ∷ take (n - (j + 1)) (drop (j + 1) items)
+    next =
+        let z : n - j ≡ suc (n - (j + 1)) = omega arith in
+        rw (z, drop-cons items j blank (omega (arith, w .long, w .room)), add-one)
+
+    module _ {b : Bool} (p : b ≡ (placed || isBefore (content s carry) (content s (getD items j blank)))) where
+      here : b ≡ true → rest s placed carry (take (n - j) (drop j items)) ≡ content s carry ∷ (content s (getD items j blank) ∷ contents s (take (n - (j + 1)) (drop (j + 1) items)))
+      unfolding rest contents insert
+      here q = rw next (go placed (sym p ∙ q))
+        where
+          go : (t : Bool) → (t || isBefore (content s carry) (content s (getD items j blank))) ≡ true → rest s t carry (getD items j blank ∷ take (n - (j + 1)) (drop (j + 1) items)) ≡ content s carry ∷ (content s (getD items j blank) ∷ contents s (take (n - (j + 1)) (drop (j + 1) items)))
+          go true e = refl
+          go false e = rw (e, insert)
+
+      past : b ≡ false → (placed ≡ false) × (rest s placed carry (take (n - j) (drop j items)) ≡ content s (getD items j blank) ∷ rest s false carry (take (n - (j + 1)) (drop (j + 1) items)))
+      unfolding rest contents insert
+      past q = rw next (go placed (sym p ∙ q))
+        where
+          go : (t : Bool) → (t || isBefore (content s carry) (content s (getD items j blank))) ≡ false → (t ≡ false) × (rest s t carry (getD items j blank ∷ take (n - (j + 1)) (drop (j + 1) items)) ≡ content s (getD items j blank) ∷ rest s false carry (take (n - (j + 1)) (drop (j + 1) items)))
+          go true e = absurd (true≢false e)
+          go false e = (refl, rw (e, insert))
+
+      pub carry-swap : b ≡ true → Carrying s n want (set items j carry) (getD items j blank) b (j + 1)
+      unfolding rest contents
+      carry-swap q =
+          let l : j < length items = omega (arith, w .long, w .room) in
+          record {
+            small = omega arith;
+            room = w .room;
+            long = length-set items j carry ∙ w .long;
+            same =
+                ap (λ (t : Bool). contents s (take (j + 1) (set items j carry)) ++ rest s t (getD items j blank) (take (n - (j + 1)) (drop (j + 1) (set items j carry)))) q
+                ∙ ap (λ (k : ℕ). contents s (take k (set items j carry)) ++ (content s (getD items j blank) ∷ contents s (take (n - (j + 1)) (drop k (set items j carry))))) (add-one j)
+                ∙ rw (take-suc-set items j carry l, drop-set-lt (suc j) items j carry (omega arith), contents-append s (take j items) (carry ∷ []), append-snoc)
+                (sym (ap (λ (r : List Property). contents s (take j items) ++ r) (here q ∙ rw (add-one j))) ∙ w .same);
+          }
+
+      pub carry-keep : b ≡ false → Carrying s n want items carry b (j + 1)
+      unfolding rest contents
+      carry-keep q =
+          let l : j < length items = omega (arith, w .long, w .room) in
+          record {
+            small = omega arith;
+            room = w .room;
+            long = w .long;
+            same =
+                ap (λ (t : Bool). contents s (take (j + 1) items) ++ rest s t carry (take (n - (j + 1)) (drop (j + 1) items))) q
+                ∙ ap (λ (k : ℕ). contents s (take k items) ++ rest s false carry (take (n - (j + 1)) (drop (j + 1) items))) (add-one j)
+                ∙ rw (take-suc items j blank l, contents-append s (take j items) (getD items j blank ∷ []), append-snoc)
+                (sym (ap (λ (r : List Property). contents s (take j items) ++ r) (past q .1)) ∙ w .same);
+          }
+
+  pub carry-done : n ≤ j → contents s (take (n + 1) (set items n carry)) ≡ want
+  unfolding rest contents insert
+  carry-done h =
+      let e : j ≡ n = omega (arith, w .small) in
+      let z : n - n ≡ 0 = omega arith in
+      rw (add-one n, take-suc-set items n carry (omega (arith, w .long, w .room)), contents-append s (take n items) (carry ∷ []))
+      (sym (ap (λ (k : ℕ). contents s (take n items) ++ rest s placed carry (take k (drop n items))) z ∙ ap (λ (r : List Property). contents s (take n items) ++ r) (last placed)) ∙ ap (λ (k : ℕ). contents s (take k items) ++ rest s placed carry (take (n - k) (drop k items))) (sym e) ∙ w .same)
+    where
+      last : (t : Bool) → rest s t carry [] ≡ content s carry ∷ []
+      last true = refl
+      last false = refl
+
+-- ---- the list as the callers see it
+
+module _ (s : List ℕ) (l : Entries) where
+  pub view-over : l .over ≡ true → view s l ≡ none
+  unfolding view
+  view-over e = rw (e, view)
+
+  pub view-some : l .over ≡ false → view s l ≡ some (contents s (take (l .n) (l .items)))
+  unfolding view
+  view-some e = rw (e, view)
+
+pub view-empty : (s : List ℕ) (l : Entries) → l .over ≡ false → l .n ≡ 0 → view s l ≡ some []
+unfolding view contents
+view-empty s l e q = view-some s l e ∙ ap (λ (n : ℕ). some (contents s (take n (l .items)))) q
+
+-- ---- room for one more
+
+full-over : (a b : Bool) → (a || b) ≡ false → (a ≡ false) × (b ≡ false)
+full-over true b e = absurd (true≢false e)
+full-over false b e = (refl, e)
+
+module _ (over : Bool) (n : ℕ) {f : Bool} (p : f ≡ (over || leb 24 n)) (e : f ≡ false) where
+  pub room-over : over ≡ false
+  room-over = full-over over (leb 24 n) (sym p ∙ e) .0
+
+  pub room-for : n < 24
+  room-for = leb-false 24 n (full-over over (leb 24 n) (sym p ∙ e) .1)
+
+module _ (s : List ℕ) (e : Entry) (l r : Entries) (k : length (l .items) ≡ 24) where
+  pub put-full : {f : Bool} → f ≡ (l .over || leb 24 (l .n)) → f ≡ true → r .over ≡ true → view s r ≡ put (content s e) (view s l)
+  unfolding put
+  put-full p q b = view-over s r b ∙ both (l .over)
+      (λ o. sym (rw (view-over s l o, put)))
+      (λ o. let h : 24 ≤ l .n = leb-true 24 (l .n) (rw o at (sym p ∙ q)) in
+      sym (rw (view-some s l o, put) (rw (contents-length s (take (l .n) (l .items)), le-ltb (length (take (l .n) (l .items))) 24 (simp length-take (omega (arith, k)))))))
+
+  pub put-some : {items : List Entry} {carry : Entry} {placed : Bool} {j : ℕ} (blank : Entry) → l .over ≡ false → Carrying s (l .n) (insert (content s e) (contents s (take (l .n) (l .items)))) items carry placed j → l .n ≤ j
+      → r .over ≡ false → r .n ≡ l .n + 1 → r .items ≡ set items (l .n) carry → view s r ≡ put (content s e) (view s l)
+  unfolding put
+  put-some {items} {carry} {placed} {j} blank o w h b c d =
+      let x : contents s (take (r .n) (r .items)) ≡ insert (content s e) (contents s (take (l .n) (l .items))) = rw (c, d) (carry-done blank s (l .n) (insert (content s e) (contents s (take (l .n) (l .items)))) items carry placed j w h) in
+      view-some s r b ∙ ap some x
+      ∙ sym (rw (view-some s l o, put) (rw (contents-length s (take (l .n) (l .items)), lt-ltb (length (take (l .n) (l .items))) 24 (simp length-take (omega (arith, k, w .room))))))

@@ -1,0 +1,4 @@
+pub mod Insertion
+pub mod Good
+pub mod Rules
+pub mod Collection

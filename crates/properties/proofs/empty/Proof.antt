@@ -1,0 +1,10 @@
+use mathlib.Core.Path.{refl}
+use Rattle.properties.proofs.Insertion.{view-empty}
+use Rattle.properties.proofs.empty.Statement.{statement}
+use Rattle.properties.proofs.empty.Tie as tie
+
+returns : tie.Need-returns
+returns c = λ s. view-empty s _ refl refl
+
+pub empty-spec : {M : Type 1} → statement M
+empty-spec = tie.close (tie.spec returns)

@@ -1,0 +1,44 @@
+-- What the program's list of properties means: each shows its IDs and its format as places in the text.
+use Prim.Native.Nat.{ℕ}
+use mathlib.Core.List.{List, [], _∷_}
+use mathlib.Core.Bool.{Bool, true, false, cond}
+use mathlib.Core.Option.{Option, none, some}
+use lib.ListN.{length, take}
+use lib.Dec.{leb, ltb}
+use Rattle.fields.specs.Values.{textAt}
+use Rattle.fields.specs.Fields.{textIn}
+use Rattle.payload.specs.Formats.{keptBytes}
+use Rattle.properties.specs.declared.Entry.{Entry}
+use Rattle.properties.specs.declared.Entries.{Entries}
+use Rattle.properties.specs.Property.{Property, textOf, insert, insertAll}
+
+unfoldable pub content : List ℕ → Entry → Property
+content s e = record {
+  node = textAt s (e .node);
+  id = textAt s (e .id);
+  datatype = e .datatype;
+  format = textOf (keptBytes (textOf (textIn s (e .format))) (e .kept));
+  settable = e .settable;
+  retained = e .retained;
+}
+
+unfoldable pub contents : List ℕ → List Entry → List Property
+contents s [] = []
+contents s (e ∷ es) = content s e ∷ contents s es
+
+-- the properties in the list; none where there were too many
+unfoldable pub view : List ℕ → Entries → Option (List Property)
+view s l = elim (l .over) [ true ↦ none | false ↦ some (contents s (take (l .n) (l .items))) ]
+
+-- Paper 01, "The description": "At most 24 properties in all."
+unfoldable pub put : Property → Option (List Property) → Option (List Property)
+put p none = none
+put p (some ps) = elim (ltb (length ps) 24) [ true ↦ some (insert p ps) | false ↦ none ]
+
+unfoldable pub putAll : List Property → Option (List Property) → Option (List Property)
+putAll [] l = l
+putAll (p ∷ ps) l = putAll ps (put p l)
+
+-- the properties in their order, or none where there are more than 24
+unfoldable pub collected : List Property → Option (List Property)
+collected ps = cond (leb (length ps) 24) (some (insertAll ps [])) none

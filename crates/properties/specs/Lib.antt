@@ -1,0 +1,4 @@
+pub mod Names
+pub mod Property
+pub mod Entries
+pub mod Parts
