@@ -1,0 +1,15 @@
+pub mod Shift
+pub mod Order
+pub mod Loops
+pub mod Places
+pub mod Steps
+pub mod Decode
+pub mod Change
+pub mod Alter
+pub mod Save
+pub mod Restore
+pub mod Whole
+pub mod Making
+pub mod Empty
+pub mod Devices
+pub mod Theorems

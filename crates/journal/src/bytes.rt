@@ -1,0 +1,118 @@
+// Bytes read, written, copied and moved.
+ghost use mathlib.Core.Path.{_≡_};
+ghost use mathlib.Core.Logic.{_⊎_};
+ghost use Prim.Native.Nat.{_+_, _*_, _≤_, _<_, _/_, _%_};
+ghost use lib.ListN.{length, getD};
+ghost use Rattle.memory.specs.Bytes.{part, move};
+ghost use Rattle.memory.specs.Layout.{two, headSize};
+ghost use Rattle.journal.specs.Parts.{Over, Toward};
+use memory::HEAD_SIZE;
+
+pub(crate) fn wide(x: u8) -> usize
+    ensures { λ r. ⌜ (r ≡ x) × (r < 256) ⌝ }
+{
+    x as usize
+}
+
+pub(crate) fn low(x: usize) -> u8
+    ensures { λ r. ⌜ r ≡ x % 256 ⌝ }
+{
+    (x % 256) as u8
+}
+
+pub(crate) fn high(x: usize) -> u8
+    requires { ⌜ x < 65536 ⌝ }
+    ensures { λ r. ⌜ r ≡ x / 256 ⌝ }
+{
+    (x / 256) as u8
+}
+
+// The number in two bytes.
+pub(crate) fn number_at(mem: &[u8], a: usize) -> usize
+    requires { ⌜ a + 2 ≤ length (now mem) ⌝ }
+    ensures { λ r. ⌜ (r ≡ two (now (mem .entry)) a) × (r < 65536) ⌝ }
+{
+    wide(mem[a]) + 256 * wide(mem[a + 1])
+}
+
+// A copy of a head.
+pub(crate) fn head_at(mem: &[u8], a: usize) -> [u8; HEAD_SIZE]
+    requires { ⌜ a + headSize ≤ length (now mem) ⌝ }
+    ensures { λ r. ⌜ r ≡ part (now (mem .entry)) a headSize ⌝ }
+{
+    let mut head = [0u8; HEAD_SIZE];
+    let mut i = 0;
+    while i < HEAD_SIZE {
+        head[i] = mem[a + i];
+        i += 1;
+    }
+    head
+}
+
+pub(crate) fn write(mem: &mut [u8], bytes: &[u8], to: usize)
+    requires { ⌜ to + length (now bytes) ≤ length (now mem) ⌝ }
+    ensures { λ _. ⌜ Over (now (mem .entry)) (λ i. getD (now (bytes .entry)) i 0) to (length (now (bytes .entry))) (now (mem .exit)) ⌝ }
+{
+    let mut i = 0;
+    while i < bytes.len() {
+        mem[to + i] = bytes[i];
+        i += 1;
+    }
+}
+
+pub(crate) fn copy(mem: &mut [u8], from: usize, to: usize, n: usize)
+    requires { ⌜ (from + n ≤ length (now mem)) × (to + n ≤ length (now mem)) ⌝ }
+    requires { ⌜ (from + n ≤ to) ⊎ (to + n ≤ from) ⌝ }
+    ensures { λ _. ⌜ Over (now (mem .entry)) (λ i. getD (now (mem .entry)) (from + i) 0) to n (now (mem .exit)) ⌝ }
+{
+    let mut i = 0;
+    while i < n {
+        mem[to + i] = mem[from + i];
+        i += 1;
+    }
+}
+
+pub(crate) fn clear(room: &mut [u8])
+    ensures { λ _. ⌜ Over (now (room .entry)) (λ _. 0) 0 (length (now (room .entry))) (now (room .exit)) ⌝ }
+{
+    let mut i = 0;
+    while i < room.len() {
+        room[i] = 0;
+        i += 1;
+    }
+}
+
+// 0, 1, 2, ..
+pub(crate) fn number(order: &mut [u8])
+    requires { ⌜ length (now order) ≤ 64 ⌝ }
+    ensures { λ _. ⌜ Over (now (order .entry)) (λ i. i) 0 (length (now (order .entry))) (now (order .exit)) ⌝ }
+{
+    let mut i: u8 = 0;
+    while wide(i) < order.len() {
+        order[wide(i)] = i;
+        i += 1;
+    }
+}
+
+// The place beside t on the way to another.
+fn toward(t: usize, to: usize) -> usize
+    requires { ⌜ (t ≡ to → ⊥) ⌝ }
+    ensures { λ r. ⌜ Toward t to r ⌝ }
+{
+    if t < to { t + 1 } else { t - 1 }
+}
+
+// The element at a place moves to another, and those between make room.
+pub(crate) fn shift(order: &mut [u8], from: usize, to: usize)
+    requires { ⌜ (from < length (now order)) × (to < length (now order)) ⌝ }
+    ensures { λ _. ⌜ now (order .exit) ≡ move 0 from to (now (order .entry)) ⌝ }
+{
+    let x = order[from];
+    let mut t = from;
+    while t != to {
+        let s = toward(t, to);
+        order[t] = order[s];
+        t = s;
+    }
+    order[to] = x;
+}

@@ -1,0 +1,5 @@
+pub mod Bytes
+pub mod Layout
+pub mod State
+pub mod Sound
+pub mod Parts
