@@ -1,0 +1,505 @@
+//! The device table, as the plain book: the standing messages in order, and a
+//! number of steps on offer. Each call is answered from the table that the
+//! standing messages make, one after another, from no devices.
+
+use crate::description::{self, Description, Property};
+use crate::payload::is_payload;
+use crate::refusal::*;
+use crate::text::{is_id, is_message_text};
+use crate::topic::{self, Form, Topic};
+use crate::trace::Event;
+use std::collections::BTreeMap;
+
+/// The bytes of memory for one device.
+pub const ROOM: u64 = 8192;
+pub const DEVICE_LIMIT: u64 = 64;
+pub const STEP_LIMIT: u64 = 64;
+pub const STATES: [&str; 5] = ["init", "ready", "disconnected", "sleeping", "lost"];
+
+/// A message is what an event of a trace holds.
+pub type Message = Event;
+
+#[derive(Clone, Copy, Debug, PartialEq, Eq)]
+pub enum LaneKind {
+    Value,
+    Target,
+    Asked,
+}
+
+impl LaneKind {
+    pub const ALL: [LaneKind; 3] = [LaneKind::Value, LaneKind::Target, LaneKind::Asked];
+
+    pub fn word(self) -> &'static str {
+        match self {
+            LaneKind::Value => "value",
+            LaneKind::Target => "target",
+            LaneKind::Asked => "asked",
+        }
+    }
+
+    pub fn from_word(word: &str) -> Option<LaneKind> {
+        LaneKind::ALL.into_iter().find(|kind| kind.word() == word)
+    }
+}
+
+#[derive(Clone, Debug, PartialEq, Eq)]
+pub struct Lane {
+    pub time: u64,
+    pub payload: Vec<u8>,
+}
+
+/// The three lanes of a property; none is an empty lane.
+type Lanes = [Option<Lane>; 3];
+
+#[derive(Clone, Debug)]
+pub struct Device {
+    pub state: &'static str,
+    pub state_time: u64,
+    pub description: Option<Description>,
+    /// One for each property of the description.
+    lanes: Vec<Lanes>,
+}
+
+impl Device {
+    fn new(state: &'static str, state_time: u64) -> Device {
+        Device { state, state_time, description: None, lanes: Vec::new() }
+    }
+
+    pub fn properties(&self) -> &[Property] {
+        self.description.as_ref().map_or(&[], |description| &description.properties)
+    }
+
+    fn describe(&mut self, description: Option<Description>) {
+        self.description = description;
+        self.lanes = vec![Lanes::default(); self.properties().len()];
+    }
+
+    fn find_property(&self, node: &[u8], id: &[u8]) -> Result<usize, Refusal> {
+        let same = |property: &Property| property.node == node && property.id == id;
+        self.properties().iter().position(same).ok_or(NO_PROPERTY)
+    }
+
+    pub fn lane(&self, property: usize, kind: LaneKind) -> Option<&Lane> {
+        self.lanes[property][kind as usize].as_ref()
+    }
+}
+
+/// What a list of messages makes.
+#[derive(Clone, Debug)]
+pub struct Table {
+    domain: Vec<u8>,
+    device_limit: usize,
+    devices: BTreeMap<Vec<u8>, Device>,
+    last_time: Option<u64>,
+}
+
+// Messages
+
+impl Table {
+    fn new(domain: &[u8], device_limit: usize) -> Table {
+        Table { domain: domain.to_vec(), device_limit, devices: BTreeMap::new(), last_time: None }
+    }
+
+    /// Takes a message, or refuses it and changes nothing.
+    fn take(&mut self, message: &Message) -> Result<(), Refusal> {
+        if self.last_time.is_some_and(|last| message.time < last) {
+            return Err(TIME);
+        }
+        let topic = topic::read(&self.domain, &message.topic)?;
+        if !is_message_text(&message.payload) {
+            return Err(NOT_UTF8);
+        }
+        if topic.form.fixed_flag().is_some_and(|flag| flag != message.retained) {
+            return Err(FLAG);
+        }
+        self.take_form(&topic, message)?;
+        self.last_time = Some(message.time);
+        Ok(())
+    }
+
+    fn take_form(&mut self, topic: &Topic, message: &Message) -> Result<(), Refusal> {
+        match topic.form {
+            Form::State if message.payload.is_empty() => self.remove(&topic.ids[0]),
+            Form::State => self.take_state(&topic.ids[0], message),
+            Form::Description => self.take_description(&topic.ids[0], &message.payload),
+            Form::Value => self.take_value(topic, message),
+            Form::Set => self.take_set(topic, message),
+            Form::Target => self.take_target(topic, message),
+            Form::Alert | Form::Log | Form::Other => self.device(&topic.ids[0]).map(|_| ()),
+            Form::Broadcast => Ok(()),
+        }
+    }
+
+    fn remove(&mut self, id: &[u8]) -> Result<(), Refusal> {
+        self.devices.remove(id).map(|_| ()).ok_or(NO_DEVICE)
+    }
+
+    fn take_state(&mut self, id: &[u8], message: &Message) -> Result<(), Refusal> {
+        let word = STATES.into_iter().find(|word| word.as_bytes() == message.payload);
+        let state = word.ok_or(PAYLOAD)?;
+        let full = self.devices.len() >= self.device_limit;
+        match self.devices.get_mut(id) {
+            Some(device) => {
+                device.state = state;
+                device.state_time = message.time;
+            }
+            None if full => return Err(FULL),
+            None => {
+                self.devices.insert(id.to_vec(), Device::new(state, message.time));
+            }
+        }
+        Ok(())
+    }
+
+    fn take_description(&mut self, id: &[u8], payload: &[u8]) -> Result<(), Refusal> {
+        let device = self.device_mut(id)?;
+        if payload.is_empty() {
+            device.describe(None);
+        } else {
+            let description = description::read(id, payload).ok_or(DESCRIPTION)?;
+            device.describe(Some(description));
+        }
+        Ok(())
+    }
+
+    fn take_value(&mut self, topic: &Topic, message: &Message) -> Result<(), Refusal> {
+        let (device, at) = self.property_mut(topic)?;
+        let retained = device.properties()[at].retained;
+        if retained != message.retained {
+            return Err(FLAG);
+        }
+        if message.payload.is_empty() && !retained {
+            return Err(PAYLOAD);
+        }
+        fill_or_empty(device, at, LaneKind::Value, message)
+    }
+
+    fn take_set(&mut self, topic: &Topic, message: &Message) -> Result<(), Refusal> {
+        let (device, at) = self.property_mut(topic)?;
+        if !device.properties()[at].settable {
+            return Err(NOT_SETTABLE);
+        }
+        fill(device, at, LaneKind::Asked, message)
+    }
+
+    fn take_target(&mut self, topic: &Topic, message: &Message) -> Result<(), Refusal> {
+        let (device, at) = self.property_mut(topic)?;
+        fill_or_empty(device, at, LaneKind::Target, message)
+    }
+
+    fn device_mut(&mut self, id: &[u8]) -> Result<&mut Device, Refusal> {
+        self.devices.get_mut(id).ok_or(NO_DEVICE)
+    }
+
+    fn property_mut(&mut self, topic: &Topic) -> Result<(&mut Device, usize), Refusal> {
+        let device = self.device_mut(&topic.ids[0])?;
+        let at = device.find_property(&topic.ids[1], &topic.ids[2])?;
+        Ok((device, at))
+    }
+}
+
+fn fill_or_empty(device: &mut Device, at: usize, kind: LaneKind, message: &Message) -> Result<(), Refusal> {
+    if message.payload.is_empty() {
+        device.lanes[at][kind as usize] = None;
+        return Ok(());
+    }
+    fill(device, at, kind, message)
+}
+
+fn fill(device: &mut Device, at: usize, kind: LaneKind, message: &Message) -> Result<(), Refusal> {
+    let property = &device.properties()[at];
+    if !is_payload(property.datatype, &property.format, &message.payload) {
+        return Err(PAYLOAD);
+    }
+    device.lanes[at][kind as usize] = Some(Lane { time: message.time, payload: message.payload.clone() });
+    Ok(())
+}
+
+// Questions
+
+impl Table {
+    pub fn count(&self) -> usize {
+        self.devices.len()
+    }
+
+    pub fn last_time(&self) -> Option<u64> {
+        self.last_time
+    }
+
+    /// The ID of the device with this number, by ascending ID bytes.
+    pub fn nth(&self, number: u64) -> Result<&[u8], Refusal> {
+        let mut ids = self.devices.keys();
+        let place = usize::try_from(number).map_err(|_| NUMBER)?;
+        ids.nth(place).map(Vec::as_slice).ok_or(NUMBER)
+    }
+
+    /// A device by its ID; what is no ID names no device.
+    pub fn device(&self, id: &[u8]) -> Result<&Device, Refusal> {
+        self.devices.get(id).ok_or(NO_DEVICE)
+    }
+
+    /// `lost` if the device has a root in the table that is `lost`.
+    pub fn effective_state(&self, device: &Device) -> &'static str {
+        let root = device.description.as_ref().and_then(|description| description.root.as_ref());
+        let root_device = root.and_then(|id| self.devices.get(id));
+        if root_device.is_some_and(|device| device.state == "lost") {
+            "lost"
+        } else {
+            device.state
+        }
+    }
+
+    /// How many properties of a device hold a value.
+    pub fn filled(&self, id: &[u8]) -> Result<usize, Refusal> {
+        let device = self.device(id)?;
+        let holds_value = |at: &usize| device.lane(*at, LaneKind::Value).is_some();
+        Ok((0..device.properties().len()).filter(holds_value).count())
+    }
+
+    pub fn property(&self, id: &[u8], number: u64) -> Result<&Property, Refusal> {
+        let place = usize::try_from(number);
+        let properties = self.device(id)?.properties();
+        place.ok().and_then(|place| properties.get(place)).ok_or(NUMBER)
+    }
+
+    pub fn lane(&self, id: &[u8], node: &[u8], property: &[u8], kind: LaneKind) -> Result<Option<&Lane>, Refusal> {
+        let device = self.device(id)?;
+        let at = device.find_property(node, property)?;
+        Ok(device.lane(at, kind))
+    }
+}
+
+/// The plain book.
+#[derive(Clone, Debug)]
+pub struct Book {
+    domain: Vec<u8>,
+    device_limit: usize,
+    step_limit: usize,
+    standing: Vec<Message>,
+    number: usize,
+}
+
+impl Book {
+    /// Opens for a domain, D devices, J steps and so many bytes of memory.
+    pub fn open(domain: &[u8], devices: u64, steps: u64, size: u64) -> Result<Book, Refusal> {
+        let good = is_id(domain)
+            && (1..=DEVICE_LIMIT).contains(&devices)
+            && steps <= STEP_LIMIT
+            && size >= ROOM * (devices + steps + 1);
+        if !good {
+            return Err(OPENING);
+        }
+        Ok(Book {
+            domain: domain.to_vec(),
+            device_limit: devices as usize,
+            step_limit: steps as usize,
+            standing: Vec::new(),
+            number: 0,
+        })
+    }
+
+    /// The table that the standing messages make.
+    pub fn table(&self) -> Table {
+        let mut table = Table::new(&self.domain, self.device_limit);
+        for message in &self.standing {
+            table.take(message).expect("a standing message is taken again");
+        }
+        table
+    }
+
+    pub fn message(&mut self, message: &Message) -> Result<(), Refusal> {
+        self.table().take(message)?;
+        self.standing.push(message.clone());
+        self.number = self.step_limit.min(self.number + 1);
+        Ok(())
+    }
+
+    pub fn step_back(&mut self) -> Result<(), Refusal> {
+        if self.number == 0 {
+            return Err(NO_STEP);
+        }
+        self.standing.pop();
+        self.number -= 1;
+        Ok(())
+    }
+
+    pub fn steps(&self) -> usize {
+        self.number
+    }
+}
+
+#[cfg(test)]
+mod tests {
+    use super::*;
+
+    const LAMP: &str = r#"{"homie":"5.0","version":7,"root":"hub","parent":"mid","nodes":{"light":{"properties":{
+        "on":{"datatype":"boolean","settable":true},
+        "level":{"datatype":"integer","format":"0:100","settable":false},
+        "pressed":{"datatype":"enum","format":"once,twice","retained":false}}}}}"#;
+
+    fn book(devices: u64, steps: u64) -> Book {
+        Book::open(b"homie", devices, steps, ROOM * (devices + steps + 1)).unwrap()
+    }
+
+    /// The answer as a number, 0 for taken.
+    fn send(book: &mut Book, time: u64, rest: &str, retained: bool, payload: &str) -> Refusal {
+        let topic = format!("homie/5/{rest}").into_bytes();
+        let message = Message { time, topic, retained, payload: payload.as_bytes().to_vec() };
+        book.message(&message).err().unwrap_or(0)
+    }
+
+    fn lamp() -> Book {
+        let mut book = book(2, 3);
+        assert_eq!(send(&mut book, 1, "lamp/$state", true, "init"), 0);
+        assert_eq!(send(&mut book, 2, "lamp/$description", true, LAMP), 0);
+        book
+    }
+
+    fn lane(book: &Book, property: &str, kind: LaneKind) -> Option<Lane> {
+        book.table().lane(b"lamp", b"light", property.as_bytes(), kind).unwrap().cloned()
+    }
+
+    #[test]
+    fn opening() {
+        let open = |domain: &[u8], d, j, size| Book::open(domain, d, j, size).err().unwrap_or(0);
+        assert_eq!(open(b"homie", 1, 0, 16384), 0);
+        assert_eq!(open(b"homie", 64, 64, 8192 * 129), 0);
+        assert_eq!(open(b"homie", 1, 0, 16383), 5);
+        assert_eq!(open(b"homie", 0, 0, 100000), 5);
+        assert_eq!(open(b"homie", 65, 0, 10000000), 5);
+        assert_eq!(open(b"homie", 1, 65, 10000000), 5);
+        assert_eq!(open(b"Homie", 1, 0, 16384), 5);
+        assert_eq!(open(b"", 1, 0, 16384), 5);
+    }
+
+    #[test]
+    fn refusals_that_come_first() {
+        let mut book = lamp();
+        assert_eq!(send(&mut book, 1, "lamp/$state", true, "init"), 7);
+        assert_eq!(send(&mut book, 2, "../x", true, "\u{feff}"), 9);
+        let mut other = |topic: &str, retained, payload: &[u8]| {
+            let message = Message { time: 2, topic: topic.as_bytes().to_vec(), retained, payload: payload.to_vec() };
+            book.message(&message).err().unwrap_or(0)
+        };
+        assert_eq!(other("house/5/lamp/$state", true, b"\xff"), 8);
+        assert_eq!(other("homie/5/lamp/$state", false, b"\xff"), 10);
+        assert_eq!(other("homie/5/$broadcast/a", false, b"\xef\xbb\xbf"), 10);
+        assert_eq!(other("homie/5/nobody/$state", false, b""), 11);
+        assert_eq!(other("homie/5/nobody/$alert/a", false, b""), 11);
+        assert_eq!(other("homie/5/nobody/a/b/set", true, b""), 11);
+        assert_eq!(other("homie/5/nobody/a/b/$target", false, b""), 11);
+        assert_eq!(other("homie/5/nobody/$description", false, b""), 11);
+    }
+
+    #[test]
+    fn states() {
+        let mut book = lamp();
+        assert_eq!(send(&mut book, 2, "x/$state", true, ""), 12);
+        assert_eq!(send(&mut book, 2, "x/$state", true, "alert"), 14);
+        assert_eq!(send(&mut book, 3, "hub/$state", true, "lost"), 0);
+        assert_eq!(send(&mut book, 3, "x/$state", true, "READY"), 14);
+        assert_eq!(send(&mut book, 3, "x/$state", true, "ready"), 13);
+        let table = book.table();
+        let lamp = table.device(b"lamp").unwrap();
+        assert_eq!((lamp.state, table.effective_state(lamp), lamp.state_time), ("init", "lost", 1));
+        assert_eq!(send(&mut book, 4, "lamp/$state", true, ""), 0);
+        assert_eq!(send(&mut book, 5, "x/$state", true, "ready"), 0);
+        assert_eq!(book.table().nth(0), Ok(&b"hub"[..]));
+        assert_eq!(book.table().nth(1), Ok(&b"x"[..]));
+        assert_eq!(book.table().nth(2), Err(3));
+    }
+
+    #[test]
+    fn descriptions() {
+        let mut book = lamp();
+        assert_eq!(send(&mut book, 2, "x/$description", true, "{"), 12);
+        assert_eq!(send(&mut book, 2, "lamp/$description", true, "{"), 15);
+        assert_eq!(send(&mut book, 3, "lamp/light/on", true, "true"), 0);
+        assert_eq!(book.table().filled(b"lamp"), Ok(1));
+        assert_eq!(send(&mut book, 4, "lamp/$description", true, LAMP), 0);
+        assert_eq!(book.table().filled(b"lamp"), Ok(0));
+        assert_eq!(send(&mut book, 5, "lamp/$description", true, ""), 0);
+        assert_eq!(book.table().property(b"lamp", 0), Err(3));
+        assert!(book.table().device(b"lamp").unwrap().description.is_none());
+        assert_eq!(send(&mut book, 6, "lamp/$description", true, ""), 0);
+    }
+
+    #[test]
+    fn values_and_targets() {
+        let mut book = lamp();
+        assert_eq!(send(&mut book, 2, "x/light/on", false, "?"), 12);
+        assert_eq!(send(&mut book, 2, "lamp/light/off", false, "?"), 16);
+        assert_eq!(send(&mut book, 2, "lamp/light/on", false, "?"), 11);
+        assert_eq!(send(&mut book, 2, "lamp/light/on", true, "TRUE"), 14);
+        assert_eq!(send(&mut book, 3, "lamp/light/on", true, "true"), 0);
+        assert_eq!(send(&mut book, 4, "lamp/light/pressed", true, "once"), 11);
+        assert_eq!(send(&mut book, 4, "lamp/light/pressed", false, ""), 14);
+        assert_eq!(send(&mut book, 4, "lamp/light/pressed", false, "once"), 0);
+        assert_eq!(book.table().filled(b"lamp"), Ok(2));
+        assert_eq!(send(&mut book, 5, "lamp/light/on", true, ""), 0);
+        assert_eq!(lane(&book, "on", LaneKind::Value), None);
+        assert_eq!(send(&mut book, 5, "x/light/on/$target", true, "9"), 12);
+        assert_eq!(send(&mut book, 5, "lamp/light/x/$target", true, "9"), 16);
+        assert_eq!(send(&mut book, 5, "lamp/light/on/$target", true, "9"), 14);
+        assert_eq!(send(&mut book, 6, "lamp/light/pressed/$target", true, "twice"), 0);
+        assert_eq!(lane(&book, "pressed", LaneKind::Target), Some(Lane { time: 6, payload: b"twice".to_vec() }));
+        assert_eq!(send(&mut book, 7, "lamp/light/pressed/$target", true, ""), 0);
+        assert_eq!(lane(&book, "pressed", LaneKind::Target), None);
+    }
+
+    #[test]
+    fn sets() {
+        let mut book = lamp();
+        assert_eq!(send(&mut book, 2, "x/light/on/set", false, "true"), 12);
+        assert_eq!(send(&mut book, 2, "lamp/light/x/set", false, "true"), 16);
+        assert_eq!(send(&mut book, 2, "lamp/light/level/set", false, "x"), 17);
+        assert_eq!(send(&mut book, 2, "lamp/light/on/set", false, ""), 14);
+        assert_eq!(send(&mut book, 3, "lamp/light/on/set", false, "true"), 0);
+        assert_eq!(lane(&book, "on", LaneKind::Asked), Some(Lane { time: 3, payload: b"true".to_vec() }));
+        assert_eq!(lane(&book, "on", LaneKind::Value), None);
+    }
+
+    #[test]
+    fn messages_that_change_nothing_but_the_last_time() {
+        let mut book = lamp();
+        for rest in ["x/$alert/a", "x/$log/info", "x/$fw/name"] {
+            assert_eq!(send(&mut book, 3, rest, true, "a"), 12);
+        }
+        for rest in ["lamp/$alert/a", "lamp/$log/info", "lamp/$fw/name", "$broadcast/a"] {
+            assert_eq!(send(&mut book, 9, rest, true, ""), 0);
+        }
+        assert_eq!(book.table().last_time(), Some(9));
+        assert_eq!(book.table().count(), 1);
+    }
+
+    #[test]
+    fn stepping_back() {
+        let mut book = lamp();
+        assert_eq!(send(&mut book, 3, "lamp/light/on", true, "true"), 0);
+        assert_eq!(send(&mut book, 4, "lamp/$state", true, ""), 0);
+        assert_eq!(book.steps(), 3);
+        assert_eq!(book.step_back(), Ok(()));
+        assert_eq!(lane(&book, "on", LaneKind::Value).unwrap().time, 3);
+        assert_eq!(book.table().last_time(), Some(3));
+        assert_eq!(send(&mut book, 3, "lamp/light/on", true, "no"), 14);
+        assert_eq!(book.steps(), 2);
+        assert_eq!(book.step_back(), Ok(()));
+        assert_eq!(book.step_back(), Ok(()));
+        assert_eq!(book.step_back(), Err(18));
+        assert_eq!(book.table().count(), 1);
+        assert!(book.table().device(b"lamp").unwrap().description.is_none());
+    }
+
+    #[test]
+    fn questions() {
+        let book = lamp();
+        let table = book.table();
+        assert_eq!(table.device(b"LAMP").err(), Some(12));
+        assert_eq!(table.filled(b"x"), Err(12));
+        assert_eq!(table.property(b"x", 9), Err(12));
+        assert_eq!(table.property(b"lamp", 3), Err(3));
+        assert_eq!(table.property(b"lamp", 0).unwrap().id, b"level");
+        assert_eq!(table.lane(b"x", b"y", b"z", LaneKind::Value), Err(12));
+        assert_eq!(table.lane(b"lamp", b"light", b"ON", LaneKind::Value), Err(16));
+    }
+}
