@@ -1,2 +1,5 @@
 pub mod Device
 pub mod Whole
+pub mod Declares
+pub mod Plain
+pub mod Theorems

@@ -3,10 +3,10 @@ use Prim.Native.Nat.{ℕ, _≤_, _<_, _^_}
 use native.Mathlib.Omega.{arith}
 use mathlib.Core.Path.{_≡_, refl, sym, ap, _∙_}
 use mathlib.Core.List.{List, [], _∷_, _++_}
-use mathlib.Core.Bool.{Bool, true, false, cond, _&&_}
+use mathlib.Core.Bool.{Bool, true, false, cond, _&&_, _||_}
 use mathlib.Core.Option.{Option, none, some}
-use lib.ListN.{length, take}
-use lib.Dec.{leb}
+use lib.ListN.{length}
+use lib.Dec.{leb, ltb}
 use lib.IntN.{ℤ}
 use borrow.Author.Tests.{le-leb, lt-leb}
 use Rattle.answer.specs.Answer.{Answer, refused, gives, require}
@@ -22,15 +22,15 @@ use Rattle.fields.specs.declared.Field.{Field}
 use Rattle.fields.proofs.Rules.{broken, kept, last, holds-append}
 use Rattle.properties.specs.declared.Entries.{Entries}
 use Rattle.properties.specs.Property.{Property, insertAll}
-use Rattle.properties.specs.Entries.{contents, view, collected}
-use Rattle.properties.proofs.Insertion.{view-over, view-some}
+use Rattle.properties.specs.Entries.{view, collected}
+use Rattle.properties.proofs.Insertion.{view-none, view-all, view-lists}
 use Rattle.nodes.specs.Nodes.{propertiesOf}
 use Rattle.description.specs.Names.{version, nodes, root, parent}
 use Rattle.description.specs.declared.Description.{Description}
 use Rattle.description.specs.declared.Verdict.{Verdict}
 use Rattle.description.specs.declared.Verdict.the-variants.{Taken, Refused}
 use Rattle.description.specs.Description.{versionIn, numberOf, declared, isEnd, validRules, rules, Described, describedAt, describe}
-use Rattle.description.specs.Meaning.{shown, meaning, verdict}
+use Rattle.description.specs.Meaning.{shown, listed, meaning, Shows, verdict}
 
 -- ---- a JSON text of a length
 
@@ -55,13 +55,44 @@ module _ {r : Scan} {e : ℕ} where
 
 -- ---- the answer
 
-pub not-taken : (s : List ℕ) (d : Description) → d .taken ≡ false → meaning s d ≡ refused 15
-unfolding meaning
-not-taken s d e = ap (λ (b : Bool). cond b (gives (shown s d)) (refused 15)) e
+-- by cases of an option, with its equation
+either {ℓ} : {A : Type 0} {X : Type ℓ} (o : Option A) → (o ≡ none → X) → ((a : A) → o ≡ some a → X) → X
+either none f g = f refl
+either (some a) f g = g a refl
 
-pub is-taken : (s : List ℕ) (d : Description) → d .taken ≡ true → meaning s d ≡ gives (shown s d)
-unfolding meaning
-is-taken s d e = ap (λ (b : Bool). cond b (gives (shown s d)) (refused 15)) e
+module _ (s : List ℕ) (d : Description) where
+  pub not-taken : d .taken ≡ false → meaning s d ≡ refused 15
+  unfolding meaning require
+  not-taken e = rw (e, require)
+
+  module _ (e : d .taken ≡ true) where
+    pub no-list : view s (d .properties) ≡ none → meaning s d ≡ refused 0
+    unfolding meaning require listed
+    no-list v = rw (e, require) (rw v)
+
+    pub is-taken : {ps : List Property} → view s (d .properties) ≡ some ps → meaning s d ≡ gives (shown s d ps)
+    unfolding meaning require listed
+    is-taken v = rw (e, require) (rw v)
+
+  pub shows : {x : Described} → meaning s d ≡ gives x → Shows s d x
+  unfolding shown
+  shows {x} m = both (d .taken)
+      (λ t. either (view s (d .properties))
+      (λ v. let y = no-list t v in let z : _≡_ {A = ℕ} 0 1 = cc in absurd (omega arith))
+      (λ ps v. let y : shown s d ps ≡ x = given (sym (is-taken t v) ∙ m) in let l = view-lists s (d .properties) v in
+      record {
+        taken = t;
+        root = ap (λ (w : Described). w .root) y;
+        parent = ap (λ (w : Described). w .parent) y;
+        version = ap (λ (w : Described). w .version) y;
+        over = l .under;
+        few = l .few;
+        properties = l .lists ∙ ap (λ (w : Described). w .properties) y;
+      }))
+      (λ t. let y = not-taken t in let z : _≡_ {A = ℕ} 0 1 = cc in absurd (omega arith))
+    where
+      given : {y z : Described} → gives y ≡ gives z → y ≡ z
+      given e = cc
 
 module _ (own s : List ℕ) where
   pub refuses : holds (rules own s) ≡ false → refused 15 ≡ describe own s
@@ -72,11 +103,11 @@ module _ (own s : List ℕ) where
   unfolding describe require
   takes e = sym (rw (e, require))
 
-module _ (own s : List ℕ) {at : ℕ} (a : at ≡ ws s 0) {v : Bool} (p : v ≡ holds (validRules own s at)) where
+module _ (own s : List ℕ) {at : ℕ} (a : at ≡ ws s 0) {v : Bool} (valid : v ≡ holds (validRules own s at)) where
   judged : holds (rules own s) ≡ (v && leb (length (declared s (ws s 0))) 24)
   unfolding rules
   judged =
-      let x : holds (validRules own s (ws s 0)) ≡ v = sym (p ∙ ap (λ (k : ℕ). holds (validRules own s k)) a) in
+      let x : holds (validRules own s (ws s 0)) ≡ v = sym (valid ∙ ap (λ (k : ℕ). holds (validRules own s k)) a) in
       let y : holds (leb (length (declared s (ws s 0))) 24 ∷ []) ≡ leb (length (declared s (ws s 0))) 24 = sym (last refl) in
       holds-append (validRules own s (ws s 0)) (leb (length (declared s (ws s 0))) 24 ∷ []) ∙ rw (x, y)
 
@@ -84,45 +115,54 @@ module _ (own s : List ℕ) {at : ℕ} (a : at ≡ ws s 0) {v : Bool} (p : v ≡
   invalid e = refuses own s (judged ∙ rw e)
 
   module _ (e : v ≡ true) {f : Field} (q : f ≡ field s at nodes) (l : Entries) (w : view s l ≡ collected (propertiesOf s (membersIn s f))) where
-    listed : view s l ≡ collected (declared s (ws s 0))
+    view-is : view s l ≡ collected (declared s (ws s 0))
     unfolding declared
-    listed = w ∙ ap (λ (g : Field). collected (propertiesOf s (membersIn s g))) (q ∙ ap (λ (k : ℕ). field s k nodes) a)
+    view-is = w ∙ ap (λ (g : Field). collected (propertiesOf s (membersIn s g))) (q ∙ ap (λ (k : ℕ). field s k nodes) a)
 
     -- too many properties, or the list of them
     split-count : {X : Type 0} → (leb (length (declared s (ws s 0))) 24 ≡ false → view s l ≡ none → X) → (leb (length (declared s (ws s 0))) 24 ≡ true → view s l ≡ some (insertAll (declared s (ws s 0)) []) → X) → X
     unfolding collected
     split-count f g = both (leb (length (declared s (ws s 0))) 24)
-        (λ c. g c (listed ∙ ap (λ (b : Bool). cond b (some (insertAll (declared s (ws s 0)) [])) none) c))
-        (λ c. f c (listed ∙ ap (λ (b : Bool). cond b (some (insertAll (declared s (ws s 0)) [])) none) c))
+        (λ c. g c (view-is ∙ ap (λ (b : Bool). cond b (some (insertAll (declared s (ws s 0)) [])) none) c))
+        (λ c. f c (view-is ∙ ap (λ (b : Bool). cond b (some (insertAll (declared s (ws s 0)) [])) none) c))
 
-    pub too-many : l .over ≡ true → refused 15 ≡ describe own s
-    too-many o = split-count
+    pub too-many : {o : Bool} → o ≡ (l .over || ltb 24 (l .n)) → o ≡ true → refused 15 ≡ describe own s
+    too-many p o = split-count
         (λ c x. refuses own s (judged ∙ rw (e, c)))
-        (λ c x. let y = view-over s l o in let z : _≡_ {A = ℕ} 0 1 = cc in absurd (omega arith))
+        (λ c x. let y = view-none s l p o in let z : _≡_ {A = ℕ} 0 1 = cc in absurd (omega arith))
 
-    shows : (d : Description) → d .properties ≡ l → d .root ≡ field s at root → d .parent ≡ field s at parent → stands (2 ^ 63) (d .version) ≡ numberOf (versionIn s (field s at version))
-        → contents s (take (l .n) (l .items)) ≡ insertAll (declared s (ws s 0)) [] → shown s d ≡ describedAt s (ws s 0)
+    same : (d : Description) → d .root ≡ field s at root → d .parent ≡ field s at parent → stands (2 ^ 63) (d .version) ≡ numberOf (versionIn s (field s at version))
+        → shown s d (insertAll (declared s (ws s 0)) []) ≡ describedAt s (ws s 0)
     unfolding shown describedAt
-    shows d c r q₂ n z = rw (r, q₂, n, c, a, z)
+    same d r q₂ n = rw (r, q₂, n, a)
 
-    pub is-described : (d : Description) → l .over ≡ false → d .taken ≡ true → d .properties ≡ l → d .root ≡ field s at root → d .parent ≡ field s at parent
+    pub is-described : (d : Description) {o : Bool} → o ≡ (l .over || ltb 24 (l .n)) → o ≡ false → d .taken ≡ true → d .properties ≡ l → d .root ≡ field s at root → d .parent ≡ field s at parent
         → stands (2 ^ 63) (d .version) ≡ numberOf (versionIn s (field s at version)) → meaning s d ≡ describe own s
-    is-described d o t c r q₂ n = split-count
-        (λ k x. let y = view-some s l o in let z : _≡_ {A = ℕ} 0 1 = cc in absurd (omega arith))
-        (λ k x. let y = view-some s l o in let z : contents s (take (l .n) (l .items)) ≡ insertAll (declared s (ws s 0)) [] = cc in
-        is-taken s d t ∙ ap gives (shows d c r q₂ n z) ∙ takes own s (judged ∙ rw (e, k)))
+    is-described d p o t c r q₂ n = split-count
+        (λ k x. let y = view-all s l p o in let z : _≡_ {A = ℕ} 0 1 = cc in absurd (omega arith))
+        (λ k x. is-taken s d t (ap (view s) c ∙ x) ∙ ap gives (same d r q₂ n) ∙ takes own s (judged ∙ rw (e, k)))
 
--- ---- the verdict
+-- ---- what `taken` tells
 
 module _ (own s : List ℕ) (d : Description) (p : meaning s d ≡ describe own s) where
+  holds-taken : d .taken ≡ true → holds (rules own s) ≡ true
+  holds-taken e = both (holds (rules own s)) (λ h. h)
+      (λ h. let y = refuses own s h in either (view s (d .properties))
+      (λ v. let x = no-list s d e v in let w : _≡_ {A = ℕ} 0 15 = cc in absurd (omega arith))
+      (λ ps v. let x = is-taken s d e v in let z : _≡_ {A = ℕ} 0 1 = cc in absurd (omega arith)))
+
+  broken-refused : d .taken ≡ false → holds (rules own s) ≡ false
+  broken-refused e = both (holds (rules own s))
+      (λ h. let x = not-taken s d e in let y = takes own s h in let z : _≡_ {A = ℕ} 0 1 = cc in absurd (omega arith))
+      (λ h. h)
+
+  pub taken-gives : d .taken ≡ true → describe own s ≡ gives (describedAt s (ws s 0))
+  taken-gives e = sym (takes own s (holds-taken e))
+
   pub verdict-yes : d .taken ≡ true → verdict Taken ≡ require (holds (rules own s)) 15 (gives tt)
   unfolding verdict require
-  verdict-yes e = both (holds (rules own s))
-      (λ h. sym (rw (h, require)))
-      (λ h. let x = is-taken s d e in let y = refuses own s h in let z : _≡_ {A = ℕ} 0 1 = cc in absurd (omega arith))
+  verdict-yes e = sym (rw (holds-taken e, require))
 
   pub verdict-no : d .taken ≡ false → verdict (Refused 15) ≡ require (holds (rules own s)) 15 (gives tt)
   unfolding verdict require
-  verdict-no e = both (holds (rules own s))
-      (λ h. let x = not-taken s d e in let y = takes own s h in let z : _≡_ {A = ℕ} 0 1 = cc in absurd (omega arith))
-      (λ h. sym (rw (h, require)))
+  verdict-no e = sym (rw (broken-refused e, require))

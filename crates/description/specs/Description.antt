@@ -70,8 +70,8 @@ otherRules s at =
     optional Id s (field s at parent) ∷
     optional Texts s (field s at extensions) ∷ []
 
--- "Fields: `homie` .., `version` ..", and the others. "Null is never allowed in these." "No known field .. twice in its object." "House
--- rule: no backslash in a field name of these objects"
+-- "Fields: `homie` .., `version` ..", and the others. "Null is never allowed in these. Other fields may hold any JSON value. No known field
+-- .. twice in its object." "House rule: no backslash in a field name of these objects"
 unfoldable pub fieldRules : List ℕ → ℕ → List Bool
 fieldRules s at =
     isObject s at ∷

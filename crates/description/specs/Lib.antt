@@ -1,3 +1,4 @@
 pub mod Names
 pub mod Description
 pub mod Meaning
+pub mod Declares

@@ -9,7 +9,7 @@ ghost use mathlib.Core.Bool.{not, _||_};
 ghost use mathlib.Core.List.{List, _∷_, []};
 ghost use Prim.Native.Nat.{ℕ, _^_};
 ghost use lib.ListN.{length};
-ghost use lib.Dec.{leb};
+ghost use lib.Dec.{leb, ltb};
 ghost use Rattle.answer.specs.Answer.{require, gives};
 ghost use Rattle.answer.specs.Answer as Answer;
 ghost use Rattle.numbers.specs.Whole.{stands};
@@ -256,6 +256,16 @@ fn refused() -> Description
     }
 }
 
+// Whether a list holds no properties because there were too many.
+fn is_over(over: bool, n: usize) -> bool
+    ensures { λ r. ⌜ r ≡ (over || ltb 24 n) ⌝ }
+{
+    if over {
+        return true;
+    }
+    n > 24
+}
+
 // What the description `s` of the device `own` declares, if it is valid.
 pub fn describe(own: &[u8], s: &[u8]) -> Description
     ensures { λ r. ⌜ meaning (now (s .entry)) r ≡ describe (now (own .entry)) (now (s .entry)) ⌝ }
@@ -265,8 +275,7 @@ pub fn describe(own: &[u8], s: &[u8]) -> Description
         return refused();
     }
     let l = nodes::properties_in(s, fields::lookup(s, at, b"nodes"));
-    let over = l.over;
-    if over {
+    if is_over(l.over, l.n) {
         return refused();
     }
     Description {

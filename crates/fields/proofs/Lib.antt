@@ -2,3 +2,6 @@ pub mod Walk
 pub mod Values
 pub mod Fields
 pub mod Rules
+pub mod Names
+pub mod Plain
+pub mod Theorems

@@ -1,7 +1,10 @@
 -- A list of rules, judged one after another.
+use Prim.Native.Nat.{ℕ, zero, suc}
 use mathlib.Core.Path.{_≡_, refl, sym, ap, _∙_}
 use mathlib.Core.List.{List, [], _∷_, _++_}
-use mathlib.Core.Bool.{Bool, true, false, _&&_}
+use mathlib.Core.Bool.{Bool, true, false, _&&_, false≢true}
+use lib.ListN.{getD}
+use Rattle.text.proofs.Bytes.{and-both}
 use Rattle.fields.specs.Fields.{holds}
 
 module _ (rs : List Bool) {r a : Bool} (p : r ≡ a) where
@@ -35,3 +38,18 @@ module _ {r : Bool} (rs bs : List Bool) (p : r ≡ holds rs) where
 
   pub all-kept : {q : Bool} → r ≡ true → q ≡ holds bs → q ≡ holds (rs ++ bs)
   all-kept e x = x ∙ sym (holds-append rs bs ∙ rw (sym p ∙ e))
+
+-- each rule that is kept
+pub rule-at : (rs : List Bool) (i : ℕ) → holds rs ≡ true → getD rs i true ≡ true
+unfolding holds
+rule-at [] i h = refl
+rule-at (true ∷ rs) zero h = refl
+rule-at (true ∷ rs) (suc i) h = rule-at rs i h
+rule-at (false ∷ rs) i h = absurd (false≢true h)
+
+module _ (rs bs : List Bool) (h : holds (rs ++ bs) ≡ true) where
+  pub holds-first : holds rs ≡ true
+  holds-first = and-both (holds rs) (holds bs) (sym (holds-append rs bs) ∙ h) .0
+
+  pub holds-second : holds bs ≡ true
+  holds-second = and-both (holds rs) (holds bs) (sym (holds-append rs bs) ∙ h) .1

@@ -34,7 +34,7 @@ abbrev pub base : Option ℤ → Option ℤ → Option ℤ
 base (some min) max = some min
 base none max = max
 
--- "the rounded value is held against min and max. With neither min nor max every integer passes."
+-- "the rounded value is held against min and max, .. With neither min nor max every integer passes."
 unfoldable pub steps : Option ℤ → Option ℤ → Option ℤ → ℕ → ℤ → Bool
 steps (some b) min max s v = held min max (rounded b v s)
 steps none min max s v = true

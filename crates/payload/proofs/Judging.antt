@@ -9,8 +9,9 @@ use lib.Dec.{eqb}
 use lib.ListN.{length, getD, List·getD-eq-default}
 use Rattle.payload.specs.declared.Datatype.{Datatype}
 use Rattle.payload.specs.declared.Datatype.the-variants.{String, Integer, Float, Boolean, Enum, Color, Datetime, Duration, Json}
-use Rattle.payload.specs.Datatypes.{datatypes, codeOf, datatypeAt}
+use Rattle.payload.specs.Datatypes.{datatypes, codeOf, datatypeAt, nameOf, datatypeNamed}
 use Rattle.payload.specs.Formats.{isFormat, keptOf, whenMissing, keptFormat, asked}
+use Rattle.text.specs.Bytes.{eqBytes}
 use Rattle.text.specs.Utf8.{isUtf8}
 use Rattle.json.specs.Value.{isContainer}
 use Rattle.payload.specs.Payloads.{isString, isJson}
@@ -70,6 +71,19 @@ code-back Color = refl
 code-back Datetime = refl
 code-back Duration = refl
 code-back Json = refl
+
+-- and so does its name
+pub name-back : (d : Datatype) → datatypeNamed (nameOf d) ≡ some d
+unfolding datatypeNamed eqBytes
+name-back String = refl
+name-back Integer = refl
+name-back Float = refl
+name-back Boolean = refl
+name-back Enum = refl
+name-back Color = refl
+name-back Datetime = refl
+name-back Duration = refl
+name-back Json = refl
 
 -- what is kept of a format
 module _ (d : Datatype) (f : List ℕ) (given : Bool) where

@@ -1,3 +1,5 @@
 pub mod Examples
 pub mod Judging
 pub mod Parting
+pub mod Formats
+pub mod Theorems

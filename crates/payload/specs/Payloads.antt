@@ -26,6 +26,7 @@ unfoldable pub isOf : Datatype → List ℕ → List ℕ → Bool
 isOf String f s = isUtf8 s
 isOf Integer f s = isInteger f s
 isOf Float f s = isFloat f s
+-- the format of a boolean: "it doesn't alter what is valid"
 isOf Boolean f s = eqBytes s (ascii "true") || eqBytes s (ascii "false")
 isOf Enum f s = isIn s (entriesOf f)
 isOf Color f s = isColor f s

@@ -12,16 +12,12 @@ use borrow.Author.Tests.{lt-ltb, le-ltb, le-leb, lt-leb}
 use Rattle.json.proofs.Bytes.{split, both}
 use Rattle.properties.specs.Property.{Property, isBefore, insert, insertAll}
 use Rattle.properties.specs.Entries.{put, putAll, collected}
+use Rattle.properties.proofs.Lists.{insert-length}
 
 pub put-all-append : (ps qs : List Property) (l : Option (List Property)) → putAll (ps ++ qs) l ≡ putAll qs (putAll ps l)
 unfolding putAll
 put-all-append [] qs l = refl
 put-all-append (p ∷ ps) qs l = put-all-append ps qs (put p l)
-
-insert-length : (p : Property) (qs : List Property) → length (insert p qs) ≡ suc (length qs)
-unfolding insert
-insert-length p [] = refl
-insert-length p (q ∷ qs) = both (isBefore p q) (λ e. rw (e, insert)) (λ e. rw (e, insert) (ap suc (insert-length p qs)))
 
 put-none : (ps : List Property) → putAll ps none ≡ none
 unfolding putAll put

@@ -1,7 +1,7 @@
 -- What the program's list of properties means: each shows its IDs and its format as places in the text.
 use Prim.Native.Nat.{ℕ}
 use mathlib.Core.List.{List, [], _∷_}
-use mathlib.Core.Bool.{Bool, true, false, cond}
+use mathlib.Core.Bool.{Bool, true, false, _||_, cond}
 use mathlib.Core.Option.{Option, none, some}
 use lib.ListN.{length, take}
 use lib.Dec.{leb, ltb}
@@ -12,6 +12,7 @@ use Rattle.properties.specs.declared.Entry.{Entry}
 use Rattle.properties.specs.declared.Entries.{Entries}
 use Rattle.properties.specs.Property.{Property, textOf, insert, insertAll}
 
+-- `Bad`, which no valid property has, reads as the empty string, as `NotKept` does: which of the two an entry has changes nothing that it means
 unfoldable pub content : List ℕ → Entry → Property
 content s e = record {
   node = textAt s (e .node);
@@ -26,9 +27,9 @@ unfoldable pub contents : List ℕ → List Entry → List Property
 contents s [] = []
 contents s (e ∷ es) = content s e ∷ contents s es
 
--- the properties in the list; none where there were too many
+-- the properties in the list, which is an array of 24; none where there were too many
 unfoldable pub view : List ℕ → Entries → Option (List Property)
-view s l = elim (l .over) [ true ↦ none | false ↦ some (contents s (take (l .n) (l .items))) ]
+view s l = cond (l .over || ltb 24 (l .n)) none (some (contents s (take (l .n) (l .items))))
 
 -- Paper 01, "The description": "At most 24 properties in all."
 unfoldable pub put : Property → Option (List Property) → Option (List Property)

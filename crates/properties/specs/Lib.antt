@@ -1,4 +1,5 @@
 pub mod Names
 pub mod Property
 pub mod Entries
+pub mod Valid
 pub mod Parts

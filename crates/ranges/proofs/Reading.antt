@@ -16,7 +16,7 @@ use Rattle.numbers.specs.Decimal.{Scientific, decimal, ofWhole}
 use Rattle.numbers.specs.Ratio.{decimalHeld}
 use Rattle.ranges.specs.Fields.{Fields, two, three, other}
 use Rattle.ranges.specs.Ranges.{Range, bound, ordered, within, keep, stepped, rangeOf, positive, leDecimal, positiveDecimal, integerRange, floatRange, stepOf, isInteger, isFloat, upTo}
-use Rattle.ranges.specs.Parts.{stepRead}
+use Rattle.ranges.specs.Answers.{stepRead}
 
 module _ {N : Type 0} (read : List ℕ → Option N) where
   pub bound-open : (s : List ℕ) → length s ≡ 0 → some none ≡ bound read s

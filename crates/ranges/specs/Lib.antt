@@ -1,3 +1,4 @@
 pub mod Fields
 pub mod Ranges
+pub mod Answers
 pub mod Parts

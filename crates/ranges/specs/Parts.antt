@@ -1,9 +1,9 @@
--- What the answers inside this crate stand for.
-use Prim.Native.Nat.{ℕ, zero, suc, _+_, _^_, _≤_, _<_}
+-- What the answers of private functions stand for.
+use Prim.Native.Nat.{ℕ, _+_, _^_, _≤_, _<_}
 use mathlib.Core.Path.{_≡_}
 use mathlib.Core.List.{List}
 use mathlib.Core.Option.{Option, none, some}
-use lib.IntN.{ℤ, pos}
+use lib.IntN.{ℤ}
 use lib.ListN.{length}
 use Rattle.text.specs.Bytes.{part}
 use Rattle.numbers.specs.Step.{limit}
@@ -15,12 +15,7 @@ use Rattle.ranges.specs.declared.IntegerLimit.{IntegerLimit}
 use Rattle.ranges.specs.declared.IntegerLimit.the-variants as integerLimit
 use Rattle.ranges.specs.declared.FloatLimit.{FloatLimit}
 use Rattle.ranges.specs.declared.FloatLimit.the-variants as floatLimit
-use Rattle.ranges.specs.declared.IntegerRange.{IntegerRange}
-use Rattle.ranges.specs.declared.IntegerRange.the-variants as integers
-use Rattle.ranges.specs.declared.FloatRange.{FloatRange}
-use Rattle.ranges.specs.declared.FloatRange.the-variants as floats
 use Rattle.ranges.specs.Fields.{Fields, two, three, other}
-use Rattle.ranges.specs.Ranges.{Range}
 
 -- the strings between the places
 abbrev pub shown : List ℕ → Cuts → Fields
@@ -37,11 +32,6 @@ pub record CutAt (s : List ℕ) (want : Fields) (r : Cuts) : Type 0 where
   pub is : shown s r ≡ want
   pub lies : Lies s r
 
--- a step of the code: 0 is none
-abbrev pub stepRead : ℕ → Option ℤ
-stepRead zero = none
-stepRead (suc n) = some (pos (suc n))
-
 abbrev pub integerLimitOf : IntegerLimit → Option (Option ℤ)
 integerLimitOf (integerLimit.Limit b) = some (limit (2 ^ 63) b)
 integerLimitOf integerLimit.Bad = none
@@ -49,11 +39,3 @@ integerLimitOf integerLimit.Bad = none
 abbrev pub floatLimitOf : FloatLimit → Option (Option Scientific)
 floatLimitOf (floatLimit.Limit b) = some (decimalLimit b)
 floatLimitOf floatLimit.Bad = none
-
-abbrev pub integerRangeOf : IntegerRange → Option (Range ℤ)
-integerRangeOf (integers.Within min max step) = some (record { min = limit (2 ^ 63) min; max = limit (2 ^ 63) max; step = stepRead step })
-integerRangeOf integers.Bad = none
-
-abbrev pub floatRangeOf : FloatRange → Option (Range Scientific)
-floatRangeOf (floats.Within min max step) = some (record { min = decimalLimit min; max = decimalLimit max; step = decimalLimit step })
-floatRangeOf floats.Bad = none

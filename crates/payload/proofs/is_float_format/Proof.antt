@@ -2,7 +2,7 @@ use mathlib.Core.Path.{sym, ap, _∙_}
 use borrow.Author.Tests.{le-leb, lt-leb}
 use Rattle.times.proofs.Chains.{stop, go}
 use Rattle.ranges.specs.Ranges.{isSome}
-use Rattle.ranges.specs.Parts.{floatRangeOf}
+use Rattle.ranges.specs.Answers.{floatRangeOf}
 use Rattle.payload.specs.Formats.{isFormat}
 use borrow.Author.Needs.{needs}
 use Rattle.payload.proofs.is_float_format.Statement.{statement}

@@ -2,7 +2,7 @@ use mathlib.Core.Path.{sym, ap, _∙_}
 use native.Mathlib.Omega.{arith}
 use lib.Signed.{leZ}
 use Rattle.numbers.specs.Integer.{integer}
-use Rattle.ranges.specs.Parts.{stepRead}
+use Rattle.ranges.specs.Answers.{stepRead}
 use Rattle.ranges.specs.Ranges.{positive, integerRange}
 use Rattle.ranges.proofs.Cutting.{cut-two, cut-three, cut-other}
 use Rattle.ranges.proofs.Reading.{range-two, range-stepped, range-other, step-goes}

@@ -5,7 +5,7 @@ use lib.IntN.{ℤ}
 use Rattle.numbers.specs.Integer.{integerRead}
 use Rattle.numbers.specs.Whole.{stands}
 use Rattle.ranges.specs.Ranges.{keep, positive}
-use Rattle.ranges.specs.Parts.{stepRead}
+use Rattle.ranges.specs.Answers.{stepRead}
 use Rattle.ranges.proofs.Reading.{step-above}
 use borrow.Author.Needs.{needs}
 use Rattle.ranges.proofs.integer_step.Statement.{statement}

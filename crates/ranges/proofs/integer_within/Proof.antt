@@ -1,6 +1,7 @@
 use mathlib.Core.Path.{sym, ap, _∙_}
 use lib.Signed.{leZ}
-use Rattle.ranges.specs.Parts.{stepRead, integerLimitOf}
+use Rattle.ranges.specs.Answers.{stepRead}
+use Rattle.ranges.specs.Parts.{integerLimitOf}
 use Rattle.ranges.proofs.Reading.{within-first, within-second, within-yes, within-no}
 use borrow.Author.Needs.{needs}
 use Rattle.ranges.proofs.integer_within.Statement.{statement}

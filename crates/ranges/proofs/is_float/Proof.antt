@@ -1,6 +1,6 @@
 use mathlib.Core.Path.{sym, ap, _∙_}
 use Rattle.numbers.specs.Decimal.{decimalRead}
-use Rattle.ranges.specs.Parts.{floatRangeOf}
+use Rattle.ranges.specs.Answers.{floatRangeOf}
 use Rattle.ranges.proofs.Reading.{no-float-range, no-float, in-floats}
 use borrow.Author.Needs.{needs}
 use Rattle.ranges.proofs.is_float.Statement.{statement}

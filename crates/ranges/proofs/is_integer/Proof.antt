@@ -3,7 +3,7 @@ use mathlib.Core.Path.{sym, ap, _∙_}
 use Rattle.numbers.specs.Whole.{stands}
 use Rattle.numbers.specs.Integer.{integerRead}
 use Rattle.numbers.specs.Step.{inRange, limit}
-use Rattle.ranges.specs.Parts.{integerRangeOf}
+use Rattle.ranges.specs.Answers.{integerRangeOf}
 use Rattle.ranges.proofs.Reading.{no-range, no-integer, in-integers}
 use borrow.Author.Needs.{needs}
 use Rattle.ranges.proofs.is_integer.Statement.{statement}
