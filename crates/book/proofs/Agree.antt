@@ -5,7 +5,7 @@ use mathlib.Core.Path.{_≡_, refl, sym, ap, ap₂, _∙_, subst}
 use mathlib.Core.List.{List, [], _∷_, _++_}
 use lib.ListN.{length, take}
 use lib.Seq.{take-nil}
-use Rattle.book.specs.Book.{Outcome, refuses, takes, Rules, Call, message, question, stepBack, steps, next, from, tableOf, Book, blank, told, noted, withoutLast, backSays, stepped, says, after, answers, State, fresh, moved, popSays, popped, answer, become, outcomes}
+use Rattle.book.specs.Book.{Outcome, refuses, takes, Rules, CallOf, message, question, stepBack, steps, next, from, tableOf, Book, blank, told, noted, withoutLast, backSays, stepped, says, after, answers, State, fresh, moved, popSays, popped, answer, become, outcomes}
 
 -- the last message gone out again
 without-end : {A : Type 0} (xs : List A) (x : A) → withoutLast (xs ++ (x ∷ [])) ≡ xs
@@ -34,7 +34,7 @@ module _ (r : Rules) where
   past-length none = refl
   past-length (more x p) = ap suc (past-length p)
 
-  record Stands (b : Book r) (s : State r) : Type 0 where
+  record Stands (b : Book r) (s : State (r .Table)) : Type 0 where
     now : s .now ≡ tableOf r (b .standing)
     past : Past (b .standing) (b .number) (s .past)
 
@@ -42,7 +42,7 @@ module _ (r : Rules) where
   unfolding from
   stands-first = record { now = refl; past = none }
 
-  stands-answer : (b : Book r) (s : State r) (c : Call r) → Stands b s → answer r s c ≡ says r b c
+  stands-answer : (b : Book r) (s : State (r .Table)) (c : CallOf r) → Stands b s → answer r s c ≡ says r b c
   stands-answer b s (message x) h = ap (λ (t : r .Table). told r (r .judge t x)) (h .now)
   stands-answer b s (question q) h = ap (λ (t : r .Table). r .reply t q) (h .now)
   stands-answer b s stepBack h = go (h .past)
@@ -52,7 +52,7 @@ module _ (r : Rules) where
       go (more x p) = refl
   stands-answer b s steps h = ap (r .offer) (past-length (h .past))
 
-  stands-after : (j : ℕ) (b : Book r) (s : State r) (c : Call r) → Stands b s → Stands (after r j b c) (become r j s c)
+  stands-after : (j : ℕ) (b : Book r) (s : State (r .Table)) (c : CallOf r) → Stands b s → Stands (after r j b c) (become r j s c)
   stands-after j b s (message x) h = subst (λ (t : r .Table). Stands (after r j b (message x)) (moved r j s (r .judge t x))) (sym (h .now)) (go (r .judge (tableOf r (b .standing)) x) refl)
     where
       go : (o : Outcome (r .Table) (r .Answer)) → r .judge (tableOf r (b .standing)) x ≡ o → Stands (noted r j b x o) (moved r j s o)
@@ -72,11 +72,11 @@ module _ (r : Rules) where
       }
   stands-after j b s steps h = h
 
-  stands-all : (j : ℕ) (b : Book r) (s : State r) (cs : List (Call r)) → Stands b s → outcomes r j s cs ≡ answers r j b cs
+  stands-all : (j : ℕ) (b : Book r) (s : State (r .Table)) (cs : List (CallOf r)) → Stands b s → outcomes r j s cs ≡ answers r j b cs
   unfolding outcomes answers
   stands-all j b s [] h = refl
   stands-all j b s (c ∷ cs) h =
       ap₂ (λ (a : r .Answer) (l : List (r .Answer)). a ∷ l) (stands-answer b s c h) (stands-all j (after r j b c) (become r j s c) cs (stands-after j b s c h))
 
-  pub fresh-all : (j : ℕ) (cs : List (Call r)) → outcomes r j (fresh r) cs ≡ answers r j (blank r) cs
+  pub fresh-all : (j : ℕ) (cs : List (CallOf r)) → outcomes r j (fresh r) cs ≡ answers r j (blank r) cs
   fresh-all j cs = stands-all j (blank r) (fresh r) cs stands-first

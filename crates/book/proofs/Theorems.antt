@@ -2,28 +2,38 @@
 use Prim.Native.Nat.{ℕ}
 use mathlib.Core.Path.{_≡_, refl, ap, ap₂, _∙_}
 use mathlib.Core.List.{List, _∷_}
-use Rattle.book.specs.Book.{Rules, Call, blank, answers, State, fresh, answer, become, outcomes, Run, done, call}
+use lib.ListN.{getD}
+use Rattle.book.specs.Book.{Rules, CallOf, Book, blank, answers, State, fresh, answer, become, outcomes, Run, done, call}
 use Rattle.book.proofs.Agree.{fresh-all}
+use Rattle.book.proofs.Answers.{Everywhere, all-said, all-answered}
 
 -- the state with steps back and the book
-pub agree : (r : Rules) (j : ℕ) (cs : List (Call r)) → outcomes r j (fresh r) cs ≡ answers r j (blank r) cs
+pub agree : (r : Rules) (j : ℕ) (cs : List (CallOf r)) → outcomes r j (fresh r) cs ≡ answers r j (blank r) cs
 agree = fresh-all
+
+-- "and 6 never occurs": what holds of every answer that the rules can give, as that it is not 6, holds of each answer of the book, the i-th
+pub everywhere : (r : Rules) (P : r .Answer → Type 0) → Everywhere r P → (j : ℕ) (b : Book r) (cs : List (CallOf r)) (i : ℕ) → P (getD (answers r j b cs) i (r .taken))
+everywhere = all-said
+
+-- and of the answer to each call in every state
+pub every-state : (r : Rules) (P : r .Answer → Type 0) → Everywhere r P → (s : State (r .Table)) (c : CallOf r) → P (answer r s c)
+every-state = all-answered
 
 -- Memory of any kind, what it means, and a relation that each call's contract cites: in sound memory the answer is the state's, the
 -- memory after is sound, and it means the state after the call.
-pub record Meant (r : Rules) (j : ℕ) {M : Type 0} (Sound : M → Type 0) (means : M → State r) (Did : Call r → M → M → r .Answer → Type 0) : Type 0 where
-  pub answered : (c : Call r) (m m′ : M) (a : r .Answer) → Did c m m′ a → Sound m → a ≡ answer r (means m) c
-  pub kept : (c : Call r) (m m′ : M) (a : r .Answer) → Did c m m′ a → Sound m → Sound m′
-  pub moved : (c : Call r) (m m′ : M) (a : r .Answer) → Did c m m′ a → Sound m → means m′ ≡ become r j (means m) c
+pub record Meant (r : Rules) (j : ℕ) {M : Type 0} (Sound : M → Type 0) (means : M → State (r .Table)) (Did : CallOf r → M → M → r .Answer → Type 0) : Type 0 where
+  pub answered : (c : CallOf r) (m m′ : M) (a : r .Answer) → Did c m m′ a → Sound m → a ≡ answer r (means m) c
+  pub kept : (c : CallOf r) (m m′ : M) (a : r .Answer) → Did c m m′ a → Sound m → Sound m′
+  pub moved : (c : CallOf r) (m m′ : M) (a : r .Answer) → Did c m m′ a → Sound m → means m′ ≡ become r j (means m) c
 
-module _ (r : Rules) (j : ℕ) {M : Type 0} (Sound : M → Type 0) (means : M → State r) (Did : Call r → M → M → r .Answer → Type 0) (h : Meant r j Sound means Did) where
+module _ (r : Rules) (j : ℕ) {M : Type 0} (Sound : M → Type 0) (means : M → State (r .Table)) (Did : CallOf r → M → M → r .Answer → Type 0) (h : Meant r j Sound means Did) where
   -- from any sound memory: the answers are those of the state that it means
-  pub settled : {m m′ : M} {cs : List (Call r)} {vs : List (r .Answer)} → Sound m → Run r Did m cs vs m′ → vs ≡ outcomes r j (means m) cs
+  pub settled : {m m′ : M} {cs : List (CallOf r)} {vs : List (r .Answer)} → Sound m → Run r Did m cs vs m′ → vs ≡ outcomes r j (means m) cs
   unfolding outcomes
   settled s done = refl
   settled {m} s (call {m′ = m′} {c = c} {a = a} {cs = cs} did rest) =
-      ap₂ (λ (x : r .Answer) (l : List (r .Answer)). x ∷ l) (h .answered c m m′ a did s) (settled (h .kept c m m′ a did s) rest ∙ ap (λ (t : State r). outcomes r j t cs) (h .moved c m m′ a did s))
+      ap₂ (λ (x : r .Answer) (l : List (r .Answer)). x ∷ l) (h .answered c m m′ a did s) (settled (h .kept c m m′ a did s) rest ∙ ap (λ (t : State (r .Table)). outcomes r j t cs) (h .moved c m m′ a did s))
 
   -- from memory that means the fresh state: the answers are the book's
-  pub agrees : {m m′ : M} {cs : List (Call r)} {vs : List (r .Answer)} → Sound m → means m ≡ fresh r → Run r Did m cs vs m′ → vs ≡ answers r j (blank r) cs
-  agrees {cs = cs} s e run = settled s run ∙ ap (λ (t : State r). outcomes r j t cs) e ∙ agree r j cs
+  pub agrees : {m m′ : M} {cs : List (CallOf r)} {vs : List (r .Answer)} → Sound m → means m ≡ fresh r → Run r Did m cs vs m′ → vs ≡ answers r j (blank r) cs
+  agrees {cs = cs} s e run = settled s run ∙ ap (λ (t : State (r .Table)). outcomes r j t cs) e ∙ agree r j cs

@@ -13,10 +13,14 @@ use Rattle.memory.specs.State.{Change, State, state, made, offered, undone, pla
 abbrev pub opens : (length-of-domain d j length-of-memory : ℕ) → Bool
 opens n d j l = leb 1 d && (leb d most && (leb j most && (leb 1 n && (leb n domainMost && leb (imageAt d j) l))))
 
--- opened: no device, the head all 0, nothing to step back to. What the free rooms hold is left open
+-- opened: no device, the head all 0, nothing to step back to
 abbrev pub fresh : List ℕ → ℕ → ℕ → List (List ℕ) → State
 fresh domain d j rooms = record { domain = domain; capacity = d; depth = j; now = record { head = replicate headSize 0; rooms = rooms }; past = [] }
 
+-- Free in the memory after a call is taken, and so never seen in its `state`: the header's spare bytes (6, 7, those behind the domain, those behind
+-- the order's D, those from 2,176 on), which slot stands at which place of the order, the ring's next place, entries that are not on offer with
+-- their step-back rooms, and of the others the two spare bytes and the room behind the bytes kept. Bytes past the size are not free: they stay.
+-- Of opening free besides: what the D rooms hold, all of them free ones.
 pub record Opened (m domain : List ℕ) (d j : ℕ) (m′ : List ℕ) (r : Bool) : Type 0 where
   pub answered : r ≡ opens (length domain) d j (length m)
   pub refused : r ≡ false → m′ ≡ m
@@ -31,7 +35,8 @@ changeOf from to offset bytes head = record { from = from; to = to; offset = off
 abbrev pub AbleTo : List ℕ → Change → Type 0
 AbleTo m c = Able m (c .from) (c .to) (getD (c .head) 0 0) (c .offset) (length (c .bytes))
 
--- any memory: taken exactly if able, else unchanged; sound memory: the state after is the state before with the change made, and sound again
+-- any memory: taken exactly if able, else unchanged; sound memory: the state after is the state before with the change made, and sound again.
+-- Memory that is not sound but able: the bytes below the size are free. No call of a table gets there, since it answers 6 first.
 pub record Committed (m : List ℕ) (c : Change) (m′ : List ℕ) (r : Bool) : Type 0 where
   pub taken : AbleTo m c → r ≡ true
   pub able : r ≡ true → AbleTo m c
@@ -49,7 +54,8 @@ pub record Offered (m : List ℕ) : Type 0 where
   pub some : 0 < steps m
   pub able : Able m (fromOf m (last m)) (toOf m (last m)) (countOf m (last m)) (offsetOf m (last m)) (lengthOf m (last m))
 
--- any memory: taken exactly if the last entry can be undone, else unchanged; sound memory: taken exactly if one is on offer, and the state is the last one before
+-- any memory: taken exactly if the last entry can be undone, else unchanged; sound memory: taken exactly if one is on offer, and the state is the last one before.
+-- Memory that is not sound, with a last entry that can be undone: the bytes below the size are free, as in Committed.
 pub record Undone (m m′ : List ℕ) (r : Bool) : Type 0 where
   pub taken : Offered m → r ≡ true
   pub able : r ≡ true → Offered m

@@ -119,13 +119,13 @@ module _ {A : Type 0} where
 
 -- what f gives of each element, moved alike
 module _ {A B : Type 0} (f : A → B) where
-  map-removeAt : (k : ℕ) (l : List A) → map f (removeAt k l) ≡ removeAt k (map f l)
+  pub map-removeAt : (k : ℕ) (l : List A) → map f (removeAt k l) ≡ removeAt k (map f l)
   unfolding removeAt
   map-removeAt k [] = refl
   map-removeAt zero (x ∷ l) = refl
   map-removeAt (suc k) (x ∷ l) = ap (λ (t : List B). f x ∷ t) (map-removeAt k l)
 
-  map-insertAt : (k : ℕ) (y : A) (l : List A) → map f (insertAt k y l) ≡ insertAt k (f y) (map f l)
+  pub map-insertAt : (k : ℕ) (y : A) (l : List A) → map f (insertAt k y l) ≡ insertAt k (f y) (map f l)
   unfolding insertAt
   map-insertAt zero y l = refl
   map-insertAt (suc k) y [] = refl
