@@ -1,0 +1,107 @@
+-- The paper's worked trace, over the definitions.
+use Prim.Native.Nat.{ℕ}
+use mathlib.Core.Path.{_≡_, refl}
+use mathlib.Core.List.{List, [], _∷_}
+use mathlib.Core.Bool.{true, false}
+use mathlib.Core.Option.{none, some}
+use Rattle.text.specs.Ascii.{ascii}
+use Rattle.payload.specs.declared.Datatype.the-variants as D
+use Rattle.answer.specs.Answer.{Answer, refused, gives}
+use Rattle.book.specs.Book.{Call, message, question, steps, blank, answers}
+use Rattle.rules.specs.declared.DeviceState.the-variants.{Init}
+use Rattle.rules.specs.declared.LaneKind.the-variants as L
+use Rattle.rules.specs.Messages.{Message}
+use Rattle.rules.specs.Questions.{Question, askCount, askNth, askStates, askProperty, askLane, Value, taken, aNumber, anId, twoStates, aProperty, aLane}
+use Rattle.rules.specs.Rules.{rules}
+use Rattle.abnf.specs.Accepts as abnf
+use Rattle.answer.specs.Answer as answer
+use Rattle.text.specs.Bytes as bytes
+use Rattle.text.specs.Ids as ids
+use Rattle.text.specs.Split as levels
+use Rattle.text.specs.Utf8 as utf8
+use Rattle.topic.specs.Flags as flags
+use Rattle.topic.specs.Topics as topics
+use Rattle.numbers.specs.Digits as digits
+use Rattle.numbers.specs.Integer as integers
+use Rattle.json.specs.Bytes as json
+use Rattle.json.specs.Members as members
+use Rattle.json.specs.Number as number
+use Rattle.json.specs.Strings as strings
+use Rattle.json.specs.Value as value
+use Rattle.fields.specs.Fields as fields
+use Rattle.fields.specs.Values as values
+use Rattle.entries.specs.Entries as entries
+use Rattle.payload.specs.Datatypes as datatypes
+use Rattle.payload.specs.Formats as formats
+use Rattle.payload.specs.Payloads as payloads
+use Rattle.properties.specs.Property as property
+use Rattle.nodes.specs.Nodes as nodes
+use Rattle.description.specs.Description as description
+use Rattle.book.specs.Book as book
+use Rattle.rules.specs.Find as devices
+use Rattle.rules.specs.Messages as messages
+use Rattle.rules.specs.Questions as questions
+use Rattle.rules.specs.Rules as outcomes
+use Rattle.rules.specs.States as states
+use Rattle.rules.specs.Table as table
+
+abbrev lamp : List ℕ
+lamp = ascii "lamp"
+
+abbrev light : List ℕ
+light = ascii "light"
+
+abbrev on : List ℕ
+on = ascii "on"
+
+abbrev pub calls : List (Call Message Question)
+calls =
+    message (record { time = 4294967290; topic = ascii "homie/5/lamp/$state"; retained = true; payload = ascii "init" })
+    ∷ message (record { time = 4294967300; topic = ascii "homie/5/lamp/$description"; retained = true; payload = ascii "{\"homie\":\"5.0\",\"version\":1,\"nodes\":{\"light\":{\"properties\":{\"on\":{\"datatype\":\"boolean\",\"settable\":true}}}}}" })
+    ∷ message (record { time = 4294967300; topic = ascii "homie/5/lamp/light/on/set"; retained = false; payload = ascii "true" })
+    ∷ message (record { time = 4294967301; topic = ascii "homie/5/lamp/light/on"; retained = true; payload = ascii "TRUE" })
+    ∷ question askCount
+    ∷ question (askNth 0)
+    ∷ question (askStates lamp)
+    ∷ question (askProperty lamp 0)
+    ∷ question (askLane lamp light on L.Value)
+    ∷ question (askLane lamp light on L.Target)
+    ∷ question (askLane lamp light on L.Asked)
+    ∷ steps
+    ∷ []
+
+abbrev pub said : List (Answer Value)
+said =
+    gives taken
+    ∷ gives taken
+    ∷ gives taken
+    ∷ refused 14
+    ∷ gives (aNumber 1)
+    ∷ gives (anId lamp)
+    ∷ gives (twoStates Init Init 4294967290)
+    ∷ gives (aProperty (record { node = light; id = on; datatype = D.Boolean; format = ascii "false,true"; settable = true; retained = true }))
+    ∷ gives (aLane none)
+    ∷ gives (aLane none)
+    ∷ gives (aLane (some (record { time = 4294967300; payload = ascii "true" })))
+    ∷ gives (aNumber 3)
+    ∷ []
+
+pub worked-trace : answers (rules (ascii "homie") 4) 3 (blank (rules (ascii "homie") 4)) calls ≡ said
+unfolding abnf.isEmpty abnf.again abnf.starts abnf.accepts answer.require answer.andThen bytes.every ids.idByte ids.isId levels.onto levels.split utf8.isUtf8 utf8.startsBom
+    utf8.isText flags.flagOf flags.admits topics.is topics.fits topics.end topics.when_give_else_ topics.formOf topics.readLevels topics.readTopic digits.digits
+    digits.numeral integers.value json.byte json.run json.past json.isWs json.ws json.word json.andThen members.nextAt members.itemAt members.memberAt members.listFrom
+    members.membersAt number.isDigit number.digitsEnd number.optional number.isMinus number.someDigits number.intAt number.fracAt number.isExp number.expAt number.numberAt
+    strings.plainStep strings.textStep strings.text strings.stringAt value.kindOf value.after value.series value.listOf value.colon value.keyAt value.memberOf value.objectOf
+    value.valueOf value.valueAt value.atEnd value.documentOf fields.holds fields.oneMore fields.fieldIn fields.field fields.optional fields.isPresent fields.isTwice
+    fields.textIn fields.flagIn fields.membersIn fields.plainNames values.bytesAt values.textAt values.isText values.isObject values.isTrue values.isFlag values.members
+    values.nameOf values.all values.isPlain values.ofKind entries.noneEmpty entries.noRepeats datatypes.datatypeNamed formats.keptFormat payloads.isPayload
+    property.datatypeIn property.isNamed property.plainText property.formatFits property.propertyRules property.typeOf property.textOf property.propertyAt property.insert
+    property.insertAll nodes.idRules nodes.propertyMember nodes.each nodes.nodeRules nodes.nodeMember nodes.propertiesAmong nodes.propertiesOf description.allDigits
+    description.minorRules description.isHomie description.homieIn description.versionIn description.isNumber description.otherRules description.fieldRules
+    description.isOther description.familyRules description.declared description.isEnd description.validRules description.rules description.describedAt description.describe
+    book.from book.answers devices.find devices.change devices.insert devices.isNamed devices.findProperty devices.changeProperty devices.inDescription devices.inDevice
+    messages.isEmpty messages.makeOrUpdate messages.byWord messages.obeyState messages.describedBy messages.obeyDescription messages.heldBy messages.fill messages.isValid
+    messages.sameFlag messages.valueRules messages.setRules messages.laneRules messages.obeyLane messages.obey messages.isDue messages.formOf messages.message questions.at
+    questions.rootLost questions.effective questions.reply outcomes.outcome states.stateWorded table.laneOf table.withLane table.rootOf table.propertiesOf table.emptyLanes
+    table.newDescription bytes.eqBytes entries.isIn
+worked-trace = refl

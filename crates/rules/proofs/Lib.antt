@@ -1,0 +1,11 @@
+pub mod Choices
+pub mod Ranks
+pub mod Answers
+pub mod Refusals
+pub mod Order
+pub mod Taken
+pub mod Effects
+pub mod Proper
+pub mod Effective
+pub mod Examples
+pub mod Theorems
