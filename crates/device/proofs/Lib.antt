@@ -1,0 +1,7 @@
+pub mod Texts
+pub mod Numbers
+pub mod Described
+pub mod Lanes
+pub mod First
+pub mod Words
+pub mod Theorems

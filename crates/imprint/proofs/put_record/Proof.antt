@@ -1,0 +1,61 @@
+use Rattle.imprint.proofs.Records.{recorded}
+use borrow.Author.Needs.{needs}
+use Rattle.imprint.proofs.put_record.Statement.{statement}
+use Rattle.imprint.proofs.put_record.Tie as tie
+
+text-at-requires : tie.Need-text-at-requires
+text-at-requires c κs = search needs
+
+put-text-requires : tie.Need-put-text-requires
+put-text-requires c κs = search needs
+
+add-put-text : tie.Need-add-put-text
+add-put-text c = search needs
+
+text-at-requires-2 : tie.Need-text-at-requires-2
+text-at-requires-2 c κs = search needs
+
+put-text-requires-2 : tie.Need-put-text-requires-2
+put-text-requires-2 c κs = search needs
+
+add-put-traits : tie.Need-add-put-traits
+add-put-traits c = search needs
+
+datatype-code-requires : tie.Need-datatype-code-requires
+datatype-code-requires c κs = search needs
+
+put-traits-requires : tie.Need-put-traits-requires
+put-traits-requires c κs = search needs
+
+add-put-format : tie.Need-add-put-format
+add-put-format c = search needs
+
+text-in-requires : tie.Need-text-in-requires
+text-in-requires c κs = search needs
+
+put-format-requires : tie.Need-put-format-requires
+put-format-requires c κs = search needs
+
+same-length : tie.Need-same-length
+same-length c = search needs
+
+returns : tie.Need-returns
+returns c = recorded _ _ _ _ _ _ _ _ _ _ _ _ (c .before .before .before .before .before .before .before .before .before .before .before .before .before .before .before .before .before .before .before .before .before .before .pre .0) (c .before .before .before .before .before .before .before .before .before .before .before .before .before .before .before .before .before .before .before .before .before .before .pre .1) (c .before .before .before .before .before .before .before .before .before .before .before .before .before .before .before .before .before .before .text-at .ensures) (c .before .before .before .before .before .before .before .before .before .before .before .before .before .before .before .before .before .put-text .ensures) (c .before .before .before .before .before .before .before .before .before .before .before .before .before .text-at2 .ensures) (c .before .before .before .before .before .before .before .before .before .before .before .before .put-text2 .ensures) (c .before .before .before .before .before .before .before .before .datatype-code .ensures) (c .before .before .before .before .before .before .before .put-traits .ensures) (c .before .before .before .text-in .ensures) (c .before .before .put-format .ensures)
+
+pub put-record-spec : {M : Type 1} → statement M
+put-record-spec =
+    tie.close
+    (tie.spec
+    text-at-requires
+    put-text-requires
+    add-put-text
+    text-at-requires-2
+    put-text-requires-2
+    add-put-traits
+    datatype-code-requires
+    put-traits-requires
+    add-put-format
+    text-in-requires
+    put-format-requires
+    same-length
+    returns)

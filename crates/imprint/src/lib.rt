@@ -1,0 +1,192 @@
+// A description written into the image of a device's room: its head, and a record for each property, the lanes empty.
+use fields::Field;
+use memory::ROOM;
+use payload::Format;
+use properties::Entries;
+use properties::Entry;
+ghost use mathlib.Core.Path.{_≡_};
+ghost use Prim.Native.Nat.{suc, _+_, _≤_, _<_, min};
+ghost use lib.ListN.{length};
+ghost use Rattle.fields.specs.Fields.{textIn};
+ghost use Rattle.payload.specs.Formats.{keptBytes};
+ghost use Rattle.properties.specs.Property.{textOf};
+ghost use Rattle.memory.specs.Layout.{roomSize};
+ghost use Rattle.device.specs.Layout.{formatMost, recordsAt, recordSize};
+ghost use Rattle.imprint.specs.Contract.{Imprinted};
+ghost use Rattle.imprint.specs.Parts.{Texted, Numbered, Recorded, Listed, Family, Headed, Traits, Blank, flag};
+
+// The layout: see crate `device`, specs/Layout.antt.
+const ID_MOST: u8 = 32;
+
+const FORMAT_MOST: u8 = 64;
+
+const MOST: u8 = 24;
+
+const DESCRIBED: usize = 42;
+
+const ROOT: usize = 43;
+
+const PARENT: usize = 76;
+
+const VERSION: usize = 109;
+
+const COUNT: usize = 117;
+
+const RECORDS: usize = 512;
+
+const RECORD: usize = 320;
+
+const PROPERTY: usize = 33;
+
+const DATATYPE: usize = 66;
+
+const FORMAT: usize = 69;
+
+fn wide(x: u8) -> usize
+    ensures { λ r. ⌜ (r ≡ x) × (r < 256) ⌝ }
+{
+    x as usize
+}
+
+fn least(n: usize, most: u8) -> u8
+    ensures { λ r. ⌜ r ≡ min n most ⌝ }
+{
+    if n < wide(most) { n as u8 } else { most }
+}
+
+// The length of t, at most `most`, and that many of its bytes.
+fn put_text(room: &mut [u8], at: usize, t: &[u8], most: u8)
+    requires { ⌜ at + suc most ≤ length (now room) ⌝ }
+    ensures { λ _. ⌜ Texted (now (room .entry)) (now (t .entry)) at most (now (room .exit)) ⌝ }
+{
+    let n = least(t.len(), most);
+    let end = wide(n);
+    room[at] = n;
+    let mut i = 0;
+    while i < end {
+        room[at + 1 + i] = t[i];
+        i += 1;
+    }
+}
+
+// The 8 bytes of a number, the lowest first.
+fn put_number(room: &mut [u8], at: usize, x: u64)
+    requires { ⌜ at + 8 ≤ length (now room) ⌝ }
+    ensures { λ _. ⌜ Numbered (now (room .entry)) at x (now (room .exit)) ⌝ }
+{
+    let mut v = x;
+    let mut j: usize = 0;
+    while j < 8 {
+        room[at + j] = (v % 256) as u8;
+        v = v / 256;
+        j += 1;
+    }
+}
+
+// The string that a field holds, or the empty string.
+fn text_in(s: &[u8], f: Field) -> &[u8]
+    ensures { λ r. ⌜ now r ≡ textOf (textIn (now (s .entry)) f) ⌝ }
+{
+    match f {
+        Field::Absent => &s[..0],
+        Field::One(k) => fields::text_at(s, k),
+        Field::Twice => &s[..0],
+    }
+}
+
+// What is kept of the format t.
+fn put_format(room: &mut [u8], at: usize, t: &[u8], kept: Format)
+    requires { ⌜ at + suc formatMost ≤ length (now room) ⌝ }
+    ensures { λ _. ⌜ Texted (now (room .entry)) (textOf (keptBytes (now (t .entry)) kept)) at formatMost (now (room .exit)) ⌝ }
+{
+    match kept {
+        Format::Bad => put_text(room, at, &t[..0], FORMAT_MOST),
+        Format::AsGiven => put_text(room, at, t, FORMAT_MOST),
+        Format::Colon => put_text(room, at, b":", FORMAT_MOST),
+        Format::FalseTrue => put_text(room, at, b"false,true", FORMAT_MOST),
+        Format::NotKept => put_text(room, at, &t[..0], FORMAT_MOST),
+    }
+}
+
+fn flag_byte(b: bool) -> u8
+    ensures { λ r. ⌜ r ≡ flag b ⌝ }
+{
+    if b { 1 } else { 0 }
+}
+
+// The datatype's number, settable and retained.
+fn put_traits(room: &mut [u8], at: usize, code: u8, settable: bool, retained: bool)
+    requires { ⌜ at + 3 ≤ length (now room) ⌝ }
+    ensures { λ _. ⌜ Traits (now (room .entry)) at code (flag settable) (flag retained) (now (room .exit)) ⌝ }
+{
+    room[at] = code;
+    room[at + 1] = flag_byte(settable);
+    room[at + 2] = flag_byte(retained);
+}
+
+// The record of a property.
+fn put_record(room: &mut [u8], at: usize, s: &[u8], e: Entry)
+    requires { ⌜ (at + recordSize ≤ length (now room)) × Blank (now room) at ⌝ }
+    ensures { λ _. ⌜ Recorded (now (room .entry)) (now (s .entry)) e at (now (room .exit)) ⌝ }
+{
+    let d = e.datatype;
+    let f = e.format;
+    let kept = e.kept;
+    put_text(room, at, fields::text_at(s, e.node), ID_MOST);
+    put_text(room, at + PROPERTY, fields::text_at(s, e.id), ID_MOST);
+    put_traits(
+        room,
+        at + DATATYPE,
+        payload::datatype_code(d),
+        e.settable,
+        e.retained,
+    );
+    put_format(room, at + FORMAT, text_in(s, f), kept);
+}
+
+// A record for each of the first n properties.
+fn put_records(room: &mut [u8], s: &[u8], l: Entries)
+    requires { ⌜ (length (now room) ≡ roomSize) × Blank (now room) recordsAt ⌝ }
+    ensures { λ _. ⌜ Listed (now (room .entry)) (now (s .entry)) l (now (room .exit)) ⌝ }
+{
+    let items = l.items;
+    let n = wide(least(l.n, MOST));
+    let mut i = 0;
+    while i < n {
+        let e = items[i];
+        put_record(room, RECORDS + RECORD * i, s, e);
+        i += 1;
+    }
+}
+
+fn put_family(room: &mut [u8], s: &[u8], root: Field, parent: Field)
+    requires { ⌜ length (now room) ≡ roomSize ⌝ }
+    ensures { λ _. ⌜ Family (now (room .entry)) (now (s .entry)) root parent (now (room .exit)) ⌝ }
+{
+    put_text(room, ROOT, text_in(s, root), ID_MOST);
+    put_text(room, PARENT, text_in(s, parent), ID_MOST);
+}
+
+// That there is a description, its root, parent and version, and how many properties it has.
+fn put_head(room: &mut [u8], s: &[u8], root: Field, parent: Field, version: u64, n: usize)
+    requires { ⌜ length (now room) ≡ roomSize ⌝ }
+    ensures { λ _. ⌜ Headed (now (room .entry)) (now (s .entry)) root parent version n (now (room .exit)) ⌝ }
+{
+    room[DESCRIBED] = 1;
+    put_family(room, s, root, parent);
+    put_number(room, VERSION, version);
+    room[COUNT] = least(n, MOST);
+}
+
+// The image of a room with the description d, which was read from s: its bytes from the description on are what a device's room gets.
+pub fn description(s: &[u8], d: description::Description) -> [u8; ROOM]
+    ensures { λ r. ⌜ Imprinted (now (s .entry)) d r ⌝ }
+{
+    let mut room = [0u8; ROOM];
+    let l = d.properties;
+    let root = d.root;
+    let parent = d.parent;
+    put_head(&mut room, s, root, parent, d.version, l.n);
+    put_records(&mut room, s, l);
+    room
+}

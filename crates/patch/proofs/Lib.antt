@@ -1,0 +1,4 @@
+pub mod Frame
+pub mod Changes
+pub mod Written
+pub mod Theorems

@@ -1,0 +1,28 @@
+-- What bytes, put over those of a room, make of the device that the room means.
+use Prim.Native.Nat.{ℕ, _<_}
+use mathlib.Core.Path.{_≡_}
+use mathlib.Core.List.{List}
+use mathlib.Core.Bool.{true, false}
+use mathlib.Core.Option.{Option, none, some}
+use lib.ListN.{length}
+use Rattle.memory.specs.Bytes.{put}
+use Rattle.memory.specs.Layout.{roomSize}
+use Rattle.rules.specs.declared.LaneKind.{LaneKind}
+use Rattle.rules.specs.Table.{Held, Device, withLane}
+use Rattle.rules.specs.Find.{changeAt, inDevice}
+use Rattle.rules.specs.Messages.{isEmpty}
+use Rattle.device.specs.Layout.{propertiesMost, laneAt}
+use Rattle.device.specs.Decode.{deviceOf}
+use Rattle.device.specs.Meaning.{laneNumber}
+
+-- these bytes at this offset change the device so, whatever room they are put in
+pub record Makes (offset : ℕ) (bytes : List ℕ) (f : Device → Device) : Type 0 where
+  pub makes : (room : List ℕ) → length room ≡ roomSize → deviceOf (put room offset bytes) ≡ f (deviceOf room)
+
+-- paper 01, "The table": "each is empty or holds a payload with its time"
+unfoldable pub held : (time : ℕ) → (payload : List ℕ) → Option Held
+held time payload = elim (isEmpty payload) [ true ↦ none | false ↦ some (record { time = time; payload = payload }) ]
+
+-- these bytes, put over a lane of any kind of any property, make it hold this
+pub record LaneMakes (bytes : List ℕ) (h : Option Held) : Type 0 where
+  pub makes : (i : ℕ) (kind : LaneKind) → i < propertiesMost → Makes (laneAt i (laneNumber kind)) bytes (inDevice (changeAt i (withLane kind h)))
