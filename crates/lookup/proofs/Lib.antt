@@ -1,0 +1,12 @@
+pub mod Slices
+pub mod Opening
+pub mod Book
+pub mod Demand
+pub mod Lists
+pub mod Ranks
+pub mod Heads
+pub mod Changes
+pub mod Edits
+pub mod Steps
+pub mod Calls
+pub mod Theorems
