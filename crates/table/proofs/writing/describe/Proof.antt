@@ -1,0 +1,47 @@
+use native.Mathlib.Omega.{arith}
+use borrow.Author.Tests.{not-true, not-false}
+use Rattle.table.proofs.Obeying.{described, described-not}
+use borrow.Author.Needs.{needs}
+use Rattle.table.proofs.writing.describe.Statement.{statement}
+use Rattle.table.proofs.writing.describe.Tie as tie
+
+describe-requires : tie.Need-describe-requires
+describe-requires c κs = search needs
+
+returns : tie.Need-returns
+returns c = described-not _ _ _ _ _ _ (c .before .before .describe .ensures) (not-true _ (c .if1 .taken))
+
+description-requires : tie.Need-description-requires
+description-requires c κs = search needs
+
+sub-patch : tie.Need-sub-patch
+sub-patch c = search needs
+
+part-patch-start : tie.Need-part-patch-start
+part-patch-start c = search needs
+
+part-patch-end : tie.Need-part-patch-end
+part-patch-end c = search needs
+
+patch-requires : tie.Need-patch-requires
+patch-requires c κs = search needs
+
+same-length : tie.Need-same-length
+same-length c = search needs
+
+returns-2 : tie.Need-returns-2
+returns-2 c = described _ _ _ _ _ _ (c .before .before .before .before .before .before .before .before .before .describe .ensures) (not-false _ (c .before .before .before .before .before .before .before .if1 .left)) (c .before .before .before .before .before .before .description .result) (omega (arith, c .before .before .before .before .before .before .description .ok)) (c .before .before .before .before .before .before .description .ensures) _ _ 8150 (c .before .before .patch .ensures) (omega (arith, c .before .before .before .before .before .before .description .ok))
+
+pub describe-spec : {M : Type 1} → statement M
+describe-spec =
+    tie.close
+    (tie.spec
+    describe-requires
+    returns
+    description-requires
+    sub-patch
+    part-patch-start
+    part-patch-end
+    patch-requires
+    same-length
+    returns-2)
