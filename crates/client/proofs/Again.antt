@@ -1,0 +1,116 @@
+-- A message sent again after a step back has the answer that it had.
+use Prim.Native.Nat.{ℕ}
+use mathlib.Core.Path.{_≡_, refl, sym, ap, ap₂, _∙_, subst}
+use mathlib.Core.List.{List, [], _∷_}
+use mathlib.Core.Bool.{Bool, true, false, false≢true}
+use lib.ListN.{length, getD, drop}
+use Rattle.answer.specs.Answer.{Answer, refused, gives}
+use Rattle.book.specs.Book as book
+use Rattle.book.specs.Book.{Call, State, fresh, moved, become, refuses, takes, Rules, message, stepBack, from, tableOf, blank, told, noted, withoutLast, after, answers, done, call}
+use Rattle.rules.specs.Table.{Table, noDevices}
+use Rattle.rules.specs.Messages as messages
+use Rattle.rules.specs.Questions.{Question, Value, taken}
+use Rattle.rules.specs.Rules.{rules, outcome}
+use Rattle.memory.specs.Layout.{size, imageAt}
+use Rattle.memory.specs.State.{state}
+use Rattle.lookup.specs.Meaning.{Sound, Opening, openingOf, means}
+use Rattle.lookup.specs.Contract.{Did, Opened, saysTaken, isTaken, isOpenable, openAnswer}
+use Rattle.lookup.proofs.Demand.{reversible}
+use Rattle.table.specs.declared.Outcome.{Outcome}
+use Rattle.table.specs.declared.Outcome.the-variants.{Taken, Refused}
+use Rattle.table.specs.Outcome.{said}
+use Rattle.client.specs.Sent.{SentTwice}
+
+-- the book is blank again
+module _ (r : Rules) (x : r .Message) where
+  back : (o : book.Outcome (r .Table) (r .Answer)) → after r 3 (noted r 3 (blank r) x o) stepBack ≡ blank r
+  unfolding withoutLast
+  back (refuses a) = refl
+  back (takes t) = refl
+
+  -- and so is what memory means
+  pub undo : (o : book.Outcome (r .Table) (r .Answer)) → become r 3 (moved r 3 (fresh r) o) stepBack ≡ fresh r
+  undo (refuses a) = refl
+  undo (takes t) = refl
+
+  pub first-said : (z : r .Answer) → getD (answers r 3 (blank r) (message x ∷ stepBack ∷ message x ∷ [])) 0 z ≡ told r (r .judge (r .start) x)
+  unfolding answers from
+  first-said z = refl
+
+  pub again-said : (z : r .Answer) → getD (answers r 3 (blank r) (message x ∷ stepBack ∷ message x ∷ [])) 2 z ≡ told r (r .judge (r .start) x)
+  unfolding answers from
+  again-said z = ap (λ b. told r (r .judge (tableOf r (b .standing)) x)) (back (r .judge (r .start) x))
+
+module _ {m₀ m₁ m₂ m₃ m₄ domain : List ℕ} {x : messages.Message} {a first undone again : Answer Value} (o : Opened m₀ domain 4 3 m₁ a) (t : isTaken a ≡ true) (p : Did (message x) m₁ m₂ first) (q : Did stepBack m₂ m₃ undone) (s : Did (message x) m₃ m₄ again) where
+  all : first ∷ undone ∷ again ∷ [] ≡ answers (rules domain 4) 3 (blank (rules domain 4)) (message x ∷ stepBack ∷ message x ∷ [])
+  all = reversible o t (call p (call q (call s done)))
+
+  first-is : first ≡ told (rules domain 4) (outcome (messages.message domain 4 noDevices x))
+  first-is = ap (λ (l : List (Answer Value)). getD l 0 (gives taken)) all ∙ first-said (rules domain 4) x (gives taken)
+
+  again-is : again ≡ first
+  again-is = ap (λ (l : List (Answer Value)). getD l 2 (gives taken)) all ∙ again-said (rules domain 4) x (gives taken) ∙ sym first-is
+
+  -- the opening of each memory, and what it means
+  o₁ : openingOf m₁ ≡ record { domain = domain; devices = 4; depth = 3 }
+  o₁ = o .opening t
+
+  s₁ : Sound m₁
+  s₁ = o .sound t
+
+  s₂ : Sound m₂
+  s₂ = p .sound s₁
+
+  o₂ : openingOf m₂ ≡ record { domain = domain; devices = 4; depth = 3 }
+  o₂ = p .opening s₁ ∙ o₁
+
+  s₃ : Sound m₃
+  s₃ = q .sound s₂
+
+  o₃ : openingOf m₃ ≡ record { domain = domain; devices = 4; depth = 3 }
+  o₃ = q .opening s₂ ∙ o₂
+
+  sound : Sound m₄
+  sound = s .sound s₃
+
+  turned : (c : Call messages.Message Question) (m : List ℕ) → openingOf m ≡ record { domain = domain; devices = 4; depth = 3 } → (w : State Table) → means m ≡ w → become (rules (openingOf m .domain) (openingOf m .devices)) (openingOf m .depth) (means m) c ≡ become (rules domain 4) 3 w c
+  turned c m e w f = ap₂ (λ (i : Opening) (v : State Table). become (rules (i .domain) (i .devices)) (i .depth) v c) e f
+
+  meant : means m₄ ≡ become (rules domain 4) 3 (fresh (rules domain 4)) (message x)
+  meant =
+      let a₂ : means m₂ ≡ become (rules domain 4) 3 (fresh (rules domain 4)) (message x) = p .moved s₁ ∙ turned (message x) m₁ o₁ _ (o .fresh t) in
+      let a₃ : means m₃ ≡ fresh (rules domain 4) = q .moved s₂ ∙ turned stepBack m₂ o₂ _ a₂ ∙ undo (rules domain 4) x (outcome (messages.message domain 4 noDevices x)) in
+      s .moved s₃ ∙ turned (message x) m₃ o₃ _ a₃
+
+  past : (m m′ : List ℕ) → openingOf m ≡ record { domain = domain; devices = 4; depth = 3 } → drop (size m) m′ ≡ drop (size m) m → drop (imageAt 4 3) m′ ≡ drop (imageAt 4 3) m
+  unfolding openingOf state
+  past m m′ e f = subst (λ (i : Opening). drop (imageAt (i .devices) (i .depth)) m′ ≡ drop (imageAt (i .devices) (i .depth)) m) e f
+
+  beyond : drop (imageAt 4 3) m₄ ≡ drop (imageAt 4 3) m₀
+  beyond = past m₃ m₄ o₃ (s .beyond) ∙ past m₂ m₃ o₂ (q .beyond) ∙ past m₁ m₂ o₁ (p .beyond) ∙ o .beyond
+
+  kept : length m₄ ≡ length m₀
+  kept = s .kept ∙ q .kept ∙ p .kept ∙ o .kept
+
+-- an opening that is taken, or refused
+opened : (b : Bool) → isTaken (openAnswer b) ≡ b
+unfolding openAnswer isTaken saysTaken
+opened true = refl
+opened false = refl
+
+taken-open : {m₀ m₁ domain : List ℕ} {a : Answer Value} → Opened m₀ domain 4 3 m₁ a → isTaken a ≡ isOpenable domain 4 3 (length m₀)
+taken-open {m₀} {m₁} {domain} o = ap isTaken (o .answered) ∙ opened (isOpenable domain 4 3 (length m₀))
+
+pub refused-right : (m₀ m₁ domain : List ℕ) (x : messages.Message) (r : Outcome) (n : ℕ) → Opened m₀ domain 4 3 m₁ (said r) → r ≡ Refused n → SentTwice m₀ domain x m₁ (said r) (said r)
+unfolding isTaken openAnswer
+refused-right m₀ m₁ domain x r n o e =
+    let t : isTaken (said r) ≡ false = ap (λ (y : Outcome). isTaken (said y)) e in
+    let f : isOpenable domain 4 3 (length m₀) ≡ false = sym (taken-open o) ∙ t in
+    let s : said r ≡ refused 5 = o .answered ∙ ap openAnswer f in
+    record { unopened = λ h. (s, (s, o .refused t)); judged = λ h. absurd (false≢true (sym f ∙ h)); alike = λ h. refl; sound = λ h. absurd (false≢true (sym f ∙ h)); means = λ h. absurd (false≢true (sym f ∙ h)); kept = o .kept; beyond = o .beyond }
+
+pub sent-right : (m₀ m₁ m₂ m₃ m₄ domain : List ℕ) (x : messages.Message) (r : Outcome) (first undone again : Answer Value) → Opened m₀ domain 4 3 m₁ (said r) → r ≡ Taken → Did (message x) m₁ m₂ first → Did stepBack m₂ m₃ undone → Did (message x) m₃ m₄ again → SentTwice m₀ domain x m₄ first again
+unfolding isTaken saysTaken
+sent-right m₀ m₁ m₂ m₃ m₄ domain x r first undone again o e p q s =
+    let t : isTaken (said r) ≡ true = ap (λ (y : Outcome). isTaken (said y)) e in
+    record { unopened = λ h. absurd (false≢true (sym h ∙ sym (taken-open o) ∙ t)); judged = λ h. first-is o t p q s; alike = λ h. again-is o t p q s; sound = λ h. sound o t p q s; means = λ h. meant o t p q s; kept = kept o t p q s; beyond = beyond o t p q s }
