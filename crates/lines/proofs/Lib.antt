@@ -1,0 +1,12 @@
+pub mod Putting
+pub mod Adding
+pub mod Parting
+pub mod Pairing
+pub mod Spelling
+pub mod Decoding
+pub mod Numerals
+pub mod Decimals
+pub mod Flagging
+pub mod RoundTrips
+pub mod ReadBack
+pub mod Theorems
