@@ -1,0 +1,4 @@
+pub mod Reply
+pub mod Files
+pub mod Judgements
+pub mod Parts
