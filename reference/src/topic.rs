@@ -59,11 +59,12 @@ const LOG_LEVELS: [&[u8]; 5] = [b"debug", b"info", b"warn", b"error", b"fatal"];
 const NOT_OTHER: [&[u8]; 4] = [b"$state", b"$description", b"$alert", b"$log"];
 
 /// Reads a topic for a domain: 8 when the first two levels differ, 9 when the
-/// rest has no form. A domain is an ID, so nothing begins with another.
+/// rest has no form. Whether the domain is an ID is judged where a table is
+/// opened.
 pub fn read(domain: &[u8], topic: &[u8]) -> Result<Topic, Refusal> {
     let levels: Vec<&[u8]> = topic.split(|&b| b == b'/').collect();
     match levels.as_slice() {
-        [first, b"5", rest @ ..] if is_id(domain) && *first == domain => read_rest(rest).ok_or(NO_FORM),
+        [first, b"5", rest @ ..] if *first == domain => read_rest(rest).ok_or(NO_FORM),
         _ => Err(FIRST_LEVELS),
     }
 }
@@ -152,8 +153,8 @@ mod tests {
         for bad in ["", "homie", "/homie/5/lamp/$state", "homie/4/lamp/$state", "homi/5/a/$state", "homie/55"] {
             assert_eq!(line(bad), "refused 8", "{bad}");
         }
-        assert_eq!(read(b"", b"/5/lamp/$state"), Err(8));
-        assert_eq!(read(b"A", b"A/5/lamp/$state"), Err(8));
+        assert_eq!(read(b"", b"/5/lamp/$state").unwrap().form, Form::State);
+        assert_eq!(read(b"A", b"A/5/lamp/$state").unwrap().form, Form::State);
     }
 
     #[test]
