@@ -233,7 +233,7 @@ fn seven(line: &[u8], out: &mut [u8]) -> usize
 }
 
 // The answer to a line.
-pub fn answer(line: &[u8], out: &mut [u8]) -> usize
+pub(crate) fn answer(line: &[u8], out: &mut [u8]) -> usize
     requires { ⌜ length (now line) ≤ 65536 ⌝ }
     ensures { λ r. ⌜ Adds (now (out .entry)) 0 (answerTo (now (line .entry))) r (now (out .exit)) ⌝ }
 {

@@ -17,13 +17,13 @@ ghost use Rattle.trace.specs.Calls.{meaningChecked, meaningWritten, shown};
 ghost use Rattle.description.specs.Meaning.{verdict};
 ghost use Rattle.judge.specs.Texts.{unknown, yesOrNo, told, eventsText, also, three as threeIds, formText, flagText, eventText, usedText};
 
-pub fn unknown(out: &mut [u8]) -> usize
+pub(crate) fn unknown(out: &mut [u8]) -> usize
     ensures { λ r. ⌜ Adds (now (out .entry)) 0 unknown r (now (out .exit)) ⌝ }
 {
     lines::out::put(out, 0, b"?")
 }
 
-pub fn yes_or_no(out: &mut [u8], yes: bool) -> usize
+pub(crate) fn yes_or_no(out: &mut [u8], yes: bool) -> usize
     ensures { λ r. ⌜ Adds (now (out .entry)) 0 (yesOrNo yes) r (now (out .exit)) ⌝ }
 {
     if yes {
@@ -32,14 +32,14 @@ pub fn yes_or_no(out: &mut [u8], yes: bool) -> usize
     lines::out::put(out, 0, b"no")
 }
 
-pub fn refused(out: &mut [u8], n: u8) -> usize
+pub(crate) fn refused(out: &mut [u8], n: u8) -> usize
     ensures { λ r. ⌜ Adds (now (out .entry)) 0 (ascii "refused " ++ decimal n) r (now (out .exit)) ⌝ }
 {
     let at = lines::out::put(out, 0, b"refused ");
     lines::number::write(out, at, n as u64)
 }
 
-pub fn events(out: &mut [u8], c: Checked) -> usize
+pub(crate) fn events(out: &mut [u8], c: Checked) -> usize
     ensures { λ r. ⌜ Adds (now (out .entry)) 0 (told eventsText (meaningChecked c)) r (now (out .exit)) ⌝ }
 {
     match c {
@@ -51,7 +51,7 @@ pub fn events(out: &mut [u8], c: Checked) -> usize
     }
 }
 
-pub fn taken(out: &mut [u8], v: Verdict) -> usize
+pub(crate) fn taken(out: &mut [u8], v: Verdict) -> usize
     ensures { λ r. ⌜ Adds (now (out .entry)) 0 (told (λ t. ascii "yes") (verdict v)) r (now (out .exit)) ⌝ }
 {
     match v {
@@ -101,7 +101,7 @@ fn alert(out: &mut [u8], topic: &[u8], d: Place, a: Place) -> usize
 }
 
 // A form's name, then its IDs.
-pub fn form(out: &mut [u8], topic: &[u8], t: Topic) -> usize
+pub(crate) fn form(out: &mut [u8], topic: &[u8], t: Topic) -> usize
     ensures { λ r. ⌜ Adds (now (out .entry)) 0 (told formText (meaning (now (topic .entry)) t)) r (now (out .exit)) ⌝ }
 {
     match t {
@@ -143,7 +143,7 @@ fn flag(out: &mut [u8], at: usize, retained: bool) -> usize
     lines::out::put(out, at, b" 0 ")
 }
 
-pub fn event(out: &mut [u8], file: &[u8], e: EventAt) -> usize
+pub(crate) fn event(out: &mut [u8], file: &[u8], e: EventAt) -> usize
     requires { ⌜ (e .topic + e .tlen ≤ length (now file)) × (e .payload + e .plen ≤ length (now file)) ⌝ }
     ensures { λ r. ⌜ Adds (now (out .entry)) 0 (eventText (shown (now (file .entry)) e)) r (now (out .exit)) ⌝ }
 {
@@ -159,7 +159,7 @@ pub fn event(out: &mut [u8], file: &[u8], e: EventAt) -> usize
 }
 
 // The length of a trace that was appended to, and the whole buffer.
-pub fn used(out: &mut [u8], buffer: &[u8], w: Written) -> usize
+pub(crate) fn used(out: &mut [u8], buffer: &[u8], w: Written) -> usize
     ensures { λ r. ⌜ Adds (now (out .entry)) 0 (told (usedText (now (buffer .entry))) (meaningWritten w)) r (now (out .exit)) ⌝ }
 {
     match w {
