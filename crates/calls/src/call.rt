@@ -182,7 +182,7 @@ fn five(mem: &mut [u8], line: &[u8], space: &mut [u8], out: &mut [u8]) -> usize 
 }
 
 // The answer to a line that is no opening.
-pub fn answer(mem: &mut [u8], line: &[u8], space: &mut [u8], out: &mut [u8]) -> usize {
+pub(crate) fn answer(mem: &mut [u8], line: &[u8], space: &mut [u8], out: &mut [u8]) -> usize {
     let n = lines::word::count(line);
     if n == 1 {
         return one(mem, line, out);

@@ -9,7 +9,7 @@ pub enum Spelt {
 }
 
 // The bytes that the word of number k writes, put into the space from a place on.
-pub fn word(line: &[u8], k: usize, space: &mut [u8], from: usize) -> Spelt {
+pub(crate) fn word(line: &[u8], k: usize, space: &mut [u8], from: usize) -> Spelt {
     if from > space.len() {
         return Spelt::Nothing;
     }
@@ -27,7 +27,7 @@ pub fn word(line: &[u8], k: usize, space: &mut [u8], from: usize) -> Spelt {
     }
 }
 
-pub fn bytes(space: &[u8], p: Place) -> &[u8] {
+pub(crate) fn bytes(space: &[u8], p: Place) -> &[u8] {
     fields::slice(space, p.start, p.end)
 }
 
@@ -37,7 +37,7 @@ pub enum KindRead {
 }
 
 // `value`, `target` or `asked`.
-pub fn kind(w: &[u8]) -> KindRead {
+pub(crate) fn kind(w: &[u8]) -> KindRead {
     if text::same(w, b"value") {
         return KindRead::Is(LaneKind::Value);
     }

@@ -35,7 +35,7 @@ fn numbers(line: &[u8], domain: usize) -> Opening {
     }
 }
 
-pub fn read(line: &[u8], space: &mut [u8]) -> Opening {
+pub(crate) fn read(line: &[u8], space: &mut [u8]) -> Opening {
     if lines::word::count(line) != 5 {
         return Opening::Nothing;
     }
@@ -48,7 +48,7 @@ pub fn read(line: &[u8], space: &mut [u8]) -> Opening {
     numbers(line, n)
 }
 
-pub fn is_one(line: &[u8], space: &mut [u8]) -> bool {
+pub(crate) fn is_one(line: &[u8], space: &mut [u8]) -> bool {
     match read(line, space) {
         Opening::Nothing => false,
         Opening::Asks {

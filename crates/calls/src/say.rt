@@ -14,32 +14,32 @@ use table::Outcome;
 use topic::Place;
 
 // A line of another shape.
-pub fn unknown(out: &mut [u8]) -> usize {
+pub(crate) fn unknown(out: &mut [u8]) -> usize {
     lines::out::put(out, 0, b"?")
 }
 
-pub fn outcome(out: &mut [u8], o: Outcome) -> usize {
+pub(crate) fn outcome(out: &mut [u8], o: Outcome) -> usize {
     match o {
         Outcome::Refused(n) => words::refused(out, n),
         Outcome::Taken => lines::out::put(out, 0, b"taken"),
     }
 }
 
-pub fn offer(out: &mut [u8], o: Offer) -> usize {
+pub(crate) fn offer(out: &mut [u8], o: Offer) -> usize {
     match o {
         Offer::Refused(n) => words::refused(out, n),
         Offer::Steps(n) => lines::number::write(out, 0, n as u64),
     }
 }
 
-pub fn number(out: &mut [u8], a: Number) -> usize {
+pub(crate) fn number(out: &mut [u8], a: Number) -> usize {
     match a {
         Number::Refused(n) => words::refused(out, n),
         Number::Is(n) => lines::number::write(out, 0, n as u64),
     }
 }
 
-pub fn time(out: &mut [u8], a: Time) -> usize {
+pub(crate) fn time(out: &mut [u8], a: Time) -> usize {
     match a {
         Time::Refused(n) => words::refused(out, n),
         Time::Never => lines::out::put(out, 0, b"none"),
@@ -47,7 +47,7 @@ pub fn time(out: &mut [u8], a: Time) -> usize {
     }
 }
 
-pub fn id(out: &mut [u8], mem: &[u8], a: Id) -> usize {
+pub(crate) fn id(out: &mut [u8], mem: &[u8], a: Id) -> usize {
     match a {
         Id::Refused(n) => words::refused(out, n),
         Id::At { place } => words::id(out, 0, mem, place),
@@ -63,7 +63,7 @@ fn two_states(out: &mut [u8], own: DeviceState, effective: DeviceState, time: u6
 }
 
 // `OWN EFFECTIVE TIME`
-pub fn states(out: &mut [u8], a: States) -> usize {
+pub(crate) fn states(out: &mut [u8], a: States) -> usize {
     match a {
         States::Refused(n) => words::refused(out, n),
         States::Are {
@@ -74,7 +74,7 @@ pub fn states(out: &mut [u8], a: States) -> usize {
     }
 }
 
-pub fn relative(out: &mut [u8], mem: &[u8], a: Relative) -> usize {
+pub(crate) fn relative(out: &mut [u8], mem: &[u8], a: Relative) -> usize {
     match a {
         Relative::Refused(n) => words::refused(out, n),
         Relative::Nothing => lines::out::put(out, 0, b"none"),
@@ -82,7 +82,7 @@ pub fn relative(out: &mut [u8], mem: &[u8], a: Relative) -> usize {
     }
 }
 
-pub fn version(out: &mut [u8], a: Version) -> usize {
+pub(crate) fn version(out: &mut [u8], a: Version) -> usize {
     match a {
         Version::Refused(n) => words::refused(out, n),
         Version::Nothing => lines::out::put(out, 0, b"none"),
@@ -113,7 +113,7 @@ fn type_and_format(out: &mut [u8], at: usize, mem: &[u8], d: Datatype, format: P
 }
 
 // `NODE PROPERTY TYPE FORMATHEX settable|- retained|-`
-pub fn property(out: &mut [u8], mem: &[u8], a: Property) -> usize {
+pub(crate) fn property(out: &mut [u8], mem: &[u8], a: Property) -> usize {
     match a {
         Property::Refused(n) => words::refused(out, n),
         Property::Is {
@@ -133,7 +133,7 @@ pub fn property(out: &mut [u8], mem: &[u8], a: Property) -> usize {
 }
 
 // `TIME PAYLOADHEX`, or `empty`
-pub fn held(out: &mut [u8], mem: &[u8], a: Held) -> usize {
+pub(crate) fn held(out: &mut [u8], mem: &[u8], a: Held) -> usize {
     match a {
         Held::Refused(n) => words::refused(out, n),
         Held::Empty => lines::out::put(out, 0, b"empty"),

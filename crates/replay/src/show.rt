@@ -15,7 +15,7 @@ fn finish(out: &mut [u8], at: usize) {
     lines::print(out, end);
 }
 
-pub fn refused(n: u8) {
+pub(crate) fn refused(n: u8) {
     let mut out = [0u8; 32];
     let at = words::refused(&mut out, n);
     finish(&mut out, at);
@@ -29,7 +29,7 @@ fn number(name: &[u8], n: u64) {
     finish(&mut out, end);
 }
 
-pub fn events(n: usize) {
+pub(crate) fn events(n: usize) {
     number(b"events ", n as u64);
 }
 
@@ -41,7 +41,7 @@ fn answer(o: Outcome) -> u64 {
     }
 }
 
-pub fn event(i: usize, time: u64, o: Outcome) {
+pub(crate) fn event(i: usize, time: u64, o: Outcome) {
     let mut out = [0u8; 64];
     let first = lines::number::write(&mut out, 0, i as u64);
     let second = lines::out::put(&mut out, first, b" ");
@@ -139,7 +139,7 @@ fn device(mem: &[u8], i: usize) {
 }
 
 // Each device, and its properties after it.
-pub fn devices(mem: &[u8]) {
+pub(crate) fn devices(mem: &[u8]) {
     match questions::count(mem) {
         Number::Refused(_) => {}
         Number::Is(n) => {
@@ -150,7 +150,7 @@ pub fn devices(mem: &[u8]) {
     }
 }
 
-pub fn steps(mem: &[u8]) {
+pub(crate) fn steps(mem: &[u8]) {
     match table::steps(mem) {
         Offer::Refused(_) => {}
         Offer::Steps(n) => number(b"steps ", n as u64),
