@@ -17,19 +17,24 @@ use Rattle.json.specs.Bytes.{ws}
 use Rattle.json.specs.Value.{documentOf}
 use Rattle.json.specs.declared.Scan.{Scan}
 use Rattle.json.specs.declared.Scan.the-variants.{End, Bad}
-use Rattle.fields.specs.Fields.{holds, field, textIn, membersIn}
+use Rattle.fields.specs.Values.{members}
+use Rattle.fields.specs.Fields.{holds, pairs, field, textIn, membersIn}
+use Rattle.fields.specs.Members.{pairsOf}
+use Rattle.fields.specs.declared.Members.{Members}
+use Rattle.fields.proofs.Table.{field-of, plain-of}
 use Rattle.fields.specs.declared.Field.{Field}
-use Rattle.fields.proofs.Rules.{broken, kept, last, holds-append}
+use Rattle.fields.proofs.Rules.{broken, kept, last, holds-append, some-broken, all-kept}
 use Rattle.properties.specs.declared.Entries.{Entries}
 use Rattle.properties.specs.Property.{Property, insertAll}
 use Rattle.properties.specs.Entries.{view, collected}
 use Rattle.properties.proofs.Insertion.{view-none, view-all, view-lists}
-use Rattle.nodes.specs.Nodes.{propertiesOf}
-use Rattle.description.specs.Names.{version, nodes, root, parent}
+use Rattle.nodes.specs.Nodes.{each, nodeMember, propertiesOf}
+use Rattle.description.specs.Names.{homie, version, nodes, name, type, children, root, parent, extensions}
 use Rattle.description.specs.declared.Description.{Description}
 use Rattle.description.specs.declared.Verdict.{Verdict}
 use Rattle.description.specs.declared.Verdict.the-variants.{Taken, Refused}
-use Rattle.description.specs.Description.{versionIn, numberOf, declared, isEnd, validRules, rules, Described, describedAt, describe}
+use Rattle.description.specs.Description.{versionIn, numberOf, otherRules, fieldRules, familyRules, declared, isEnd, validRules, rules, Described, describedAt, describe}
+use Rattle.description.specs.Parts.{otherRulesIn, fieldRulesIn, familyRulesIn, deviceRulesIn}
 use Rattle.description.specs.Meaning.{shown, listed, meaning, Shows, verdict}
 
 -- ---- a JSON text of a length
@@ -43,6 +48,25 @@ module _ (s : List ℕ) where
 
   pub json-is : {r : Scan} {b u : Bool} → length s ≤ 8192 → u ≡ isUtf8 s → u ≡ true → r ≡ documentOf s → b ≡ isEnd r → b ≡ holds (leb (length s) 8192 ∷ isUtf8 s ∷ isEnd (documentOf s) ∷ [])
   json-is h q f p x = kept _ (sym (le-leb (length s) 8192 h)) refl (kept _ q f (last (x ∙ ap isEnd p)))
+
+-- ---- the rules, read in the table of the device's members
+
+by-table : (own s : List ℕ) (at : ℕ) (m : Members) → pairsOf s m ≡ pairs s (members s at) → deviceRulesIn own s at m ≡ fieldRules s at ++ (familyRules own s at ++ (each (nodeMember s) s (field s at nodes) ∷ []))
+unfolding deviceRulesIn fieldRulesIn otherRulesIn familyRulesIn fieldRules otherRules familyRules
+by-table own s at m h =
+    rw (plain-of s at m h, field-of s at m h homie, field-of s at m h version, field-of s at m h nodes, field-of s at m h name, field-of s at m h type, field-of s at m h children, field-of s at m h root, field-of s at m h parent, field-of s at m h extensions)
+
+module _ (own s : List ℕ) (at : ℕ) {j : Bool} (p : j ≡ holds (leb (length s) 8192 ∷ isUtf8 s ∷ isEnd (documentOf s) ∷ [])) where
+  pub not-json : j ≡ false → false ≡ holds (validRules own s at)
+  unfolding validRules
+  not-json e = some-broken _ _ p e
+
+  pub device-is : (m : Members) {v : Bool} → j ≡ true → pairsOf s m ≡ pairs s (members s at) → v ≡ holds (deviceRulesIn own s at m) → v ≡ holds (validRules own s at)
+  unfolding validRules
+  device-is m e h x = all-kept _ _ p e (x ∙ ap holds (by-table own s at m h))
+
+pub number-as : (s : List ℕ) {z : ℤ} {f g : Field} → z ≡ numberOf (versionIn s f) → f ≡ g → z ≡ numberOf (versionIn s g)
+number-as s p e = p ∙ ap (λ (f : Field). numberOf (versionIn s f)) e
 
 module _ {r : Scan} {e : ℕ} where
   pub is-end : r ≡ End e → true ≡ isEnd r

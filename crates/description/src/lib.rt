@@ -1,6 +1,7 @@
 // A device's description: judged, and what it declares.
 use fields::Field;
 use fields::Kind;
+use fields::Members;
 use json::Scan;
 use numbers::integers::IntegerRead;
 use properties::Entries;
@@ -16,9 +17,11 @@ ghost use Rattle.numbers.specs.Whole.{stands};
 ghost use Rattle.numbers.specs.Integer.{integerRead};
 ghost use Rattle.text.specs.Utf8.{isUtf8};
 ghost use Rattle.json.specs.Value.{documentOf};
-ghost use Rattle.fields.specs.Fields.{holds, field, isPresent};
+ghost use Rattle.fields.specs.Fields.{holds, isPresent};
+ghost use Rattle.fields.specs.Members.{fieldOf};
 ghost use Rattle.description.specs.Names.{homie, version, root, parent};
-ghost use Rattle.description.specs.Description.{allDigits, minorRules, isHomie, homieIn, versionIn, isNumber, otherRules, fieldRules, isOther, familyRules, isEnd, validRules, rules, numberOf, describe};
+ghost use Rattle.description.specs.Description.{allDigits, minorRules, isHomie, homieIn, versionIn, isNumber, isOther, isEnd, rules, numberOf, describe};
+ghost use Rattle.description.specs.Parts.{otherRulesIn, fieldRulesIn, familyRulesIn, deviceRulesIn};
 ghost use Rattle.description.specs.Meaning.{meaning, verdict};
 
 // Whether a description is taken, and what it declares: `version` stands for the number less 2^63, root and parent are places in the text.
@@ -106,66 +109,66 @@ fn version_in(s: &[u8], f: Field) -> IntegerRead
     }
 }
 
-fn has_version(s: &[u8], at: usize) -> bool
-    ensures { λ r. ⌜ r ≡ isNumber (versionIn (now (s .entry)) (field (now (s .entry)) at version)) ⌝ }
+fn has_version(s: &[u8], m: Members) -> bool
+    ensures { λ r. ⌜ r ≡ isNumber (versionIn (now (s .entry)) (fieldOf (now (s .entry)) m version)) ⌝ }
 {
-    match version_in(s, fields::lookup(s, at, b"version")) {
+    match version_in(s, fields::lookup_in(s, m, b"version")) {
         IntegerRead::Value(_) => true,
         IntegerRead::Nothing => false,
     }
 }
 
-fn version_at(s: &[u8], at: usize) -> u64
-    ensures { λ r. ⌜ stands (2 ^ 63) r ≡ numberOf (versionIn (now (s .entry)) (field (now (s .entry)) at version)) ⌝ }
+fn version_at(s: &[u8], m: Members) -> u64
+    ensures { λ r. ⌜ stands (2 ^ 63) r ≡ numberOf (versionIn (now (s .entry)) (fieldOf (now (s .entry)) m version)) ⌝ }
 {
-    match version_in(s, fields::lookup(s, at, b"version")) {
+    match version_in(s, fields::lookup_in(s, m, b"version")) {
         IntegerRead::Value(n) => n,
         IntegerRead::Nothing => 9223372036854775808,
     }
 }
 
 // Whether the other known fields of the device stand at most once, each of its kind.
-fn has_others(s: &[u8], at: usize) -> bool
-    ensures { λ r. ⌜ r ≡ holds (otherRules (now (s .entry)) at) ⌝ }
+fn has_others(s: &[u8], m: Members) -> bool
+    ensures { λ r. ⌜ r ≡ holds (otherRulesIn (now (s .entry)) m) ⌝ }
 {
-    if !fields::has_optional(s, at, b"nodes", Kind::Object) {
+    if !fields::has_optional(s, m, b"nodes", Kind::Object) {
         return false;
     }
-    if !fields::has_optional(s, at, b"name", Kind::Text) {
+    if !fields::has_optional(s, m, b"name", Kind::Text) {
         return false;
     }
-    if !fields::has_optional(s, at, b"type", Kind::Text) {
+    if !fields::has_optional(s, m, b"type", Kind::Text) {
         return false;
     }
-    if !fields::has_optional(s, at, b"children", Kind::Ids) {
+    if !fields::has_optional(s, m, b"children", Kind::Ids) {
         return false;
     }
-    if !fields::has_optional(s, at, b"root", Kind::Id) {
+    if !fields::has_optional(s, m, b"root", Kind::Id) {
         return false;
     }
-    if !fields::has_optional(s, at, b"parent", Kind::Id) {
+    if !fields::has_optional(s, m, b"parent", Kind::Id) {
         return false;
     }
-    fields::has_optional(s, at, b"extensions", Kind::Texts)
+    fields::has_optional(s, m, b"extensions", Kind::Texts)
 }
 
 // Whether the device's known fields are there as they must be.
-fn has_fields(s: &[u8], at: usize) -> bool
-    ensures { λ r. ⌜ r ≡ holds (fieldRules (now (s .entry)) at) ⌝ }
+fn has_fields(s: &[u8], at: usize, m: Members) -> bool
+    ensures { λ r. ⌜ r ≡ holds (fieldRulesIn (now (s .entry)) at m) ⌝ }
 {
     if !fields::is_object(s, at) {
         return false;
     }
-    if !fields::plain_names(s, at) {
+    if !fields::are_plain(s, m) {
         return false;
     }
-    if !has_homie(s, fields::lookup(s, at, b"homie")) {
+    if !has_homie(s, fields::lookup_in(s, m, b"homie")) {
         return false;
     }
-    if !has_version(s, at) {
+    if !has_version(s, m) {
         return false;
     }
-    has_others(s, at)
+    has_others(s, m)
 }
 
 // Whether a field does not hold the device's own ID.
@@ -190,26 +193,26 @@ fn is_present(f: Field) -> bool
 }
 
 // Whether there is a root where there is a parent.
-fn has_root(s: &[u8], at: usize) -> bool
-    ensures { λ r. ⌜ r ≡ (not (isPresent (field (now (s .entry)) at parent)) || isPresent (field (now (s .entry)) at root)) ⌝ }
+fn has_root(s: &[u8], m: Members) -> bool
+    ensures { λ r. ⌜ r ≡ (not (isPresent (fieldOf (now (s .entry)) m parent)) || isPresent (fieldOf (now (s .entry)) m root)) ⌝ }
 {
-    if !is_present(fields::lookup(s, at, b"parent")) {
+    if !is_present(fields::lookup_in(s, m, b"parent")) {
         return true;
     }
-    is_present(fields::lookup(s, at, b"root"))
+    is_present(fields::lookup_in(s, m, b"root"))
 }
 
 // Whether root and parent go together and are other devices.
-fn has_family(own: &[u8], s: &[u8], at: usize) -> bool
-    ensures { λ r. ⌜ r ≡ holds (familyRules (now (own .entry)) (now (s .entry)) at) ⌝ }
+fn has_family(own: &[u8], s: &[u8], m: Members) -> bool
+    ensures { λ r. ⌜ r ≡ holds (familyRulesIn (now (own .entry)) (now (s .entry)) m) ⌝ }
 {
-    if !has_root(s, at) {
+    if !has_root(s, m) {
         return false;
     }
-    if !is_other(own, s, fields::lookup(s, at, b"root")) {
+    if !is_other(own, s, fields::lookup_in(s, m, b"root")) {
         return false;
     }
-    is_other(own, s, fields::lookup(s, at, b"parent"))
+    is_other(own, s, fields::lookup_in(s, m, b"parent"))
 }
 
 // Whether the text is a JSON text, in UTF-8, of at most 8,192 bytes.
@@ -228,20 +231,17 @@ fn is_json(s: &[u8]) -> bool
     }
 }
 
-// Whether no rule but the number of properties is broken; the device's object is at `at`.
-fn is_valid(own: &[u8], s: &[u8], at: usize) -> bool
-    ensures { λ r. ⌜ r ≡ holds (validRules (now (own .entry)) (now (s .entry)) at) ⌝ }
+// Whether the device's object, at `at` with these members, breaks no rule but the number of properties.
+fn is_device(own: &[u8], s: &[u8], at: usize, m: Members) -> bool
+    ensures { λ r. ⌜ r ≡ holds (deviceRulesIn (now (own .entry)) (now (s .entry)) at m) ⌝ }
 {
-    if !is_json(s) {
+    if !has_fields(s, at, m) {
         return false;
     }
-    if !has_fields(s, at) {
+    if !has_family(own, s, m) {
         return false;
     }
-    if !has_family(own, s, at) {
-        return false;
-    }
-    nodes::has_nodes(s, fields::lookup(s, at, b"nodes"))
+    nodes::has_nodes(s, fields::lookup_in(s, m, b"nodes"))
 }
 
 fn refused() -> Description
@@ -271,18 +271,22 @@ pub fn describe(own: &[u8], s: &[u8]) -> Description
     ensures { λ r. ⌜ meaning (now (s .entry)) r ≡ describe (now (own .entry)) (now (s .entry)) ⌝ }
 {
     let at = json::skip(s, 0);
-    if !is_valid(own, s, at) {
+    if !is_json(s) {
         return refused();
     }
-    let l = nodes::properties_in(s, fields::lookup(s, at, b"nodes"));
+    let m = fields::members_of(s, at);
+    if !is_device(own, s, at, m) {
+        return refused();
+    }
+    let l = nodes::properties_in(s, fields::lookup_in(s, m, b"nodes"));
     if is_over(l.over, l.n) {
         return refused();
     }
     Description {
         taken: true,
-        version: version_at(s, at),
-        root: fields::lookup(s, at, b"root"),
-        parent: fields::lookup(s, at, b"parent"),
+        version: version_at(s, m),
+        root: fields::lookup_in(s, m, b"root"),
+        parent: fields::lookup_in(s, m, b"parent"),
         properties: l,
     }
 }

@@ -10,12 +10,13 @@ use Rattle.json.specs.Members.{Member, memberAt, GotItem}
 use Rattle.json.specs.declared.Item.{Item}
 use Rattle.json.specs.declared.Item.the-variants.{At, Done}
 use Rattle.text.specs.Bytes.{eqBytes}
+use Rattle.text.proofs.Bytes.{both}
 use Rattle.fields.specs.declared.Kind.{Kind}
 use Rattle.fields.specs.declared.Kind.the-variants.{Text, Flag, Object, Id, Ids, Texts}
 use Rattle.fields.specs.declared.Field.{Field}
 use Rattle.fields.specs.declared.Field.the-variants.{Absent, One, Twice}
 use Rattle.fields.specs.Values.{textAt, isTrue, members, nameOf, all, isPlain, ofKind}
-use Rattle.fields.specs.Fields.{oneMore, fieldIn, field, optional, flagIn, plainNames}
+use Rattle.fields.specs.Fields.{oneMore, pairs, fieldIn, field, optional, flagIn, plainIn, plainNames}
 use Rattle.fields.proofs.Walk.{Walking, walking-as, at-done, at-item, no-members, first-member}
 
 module _ (seen : Field) (k : ℕ) where
@@ -33,21 +34,21 @@ module _ (seen : Field) (k : ℕ) where
 
 -- the walk that looks for a name
 abbrev pub Looking : List ℕ → List ℕ → Field → ℕ → Field → Type 0
-Looking s name seen i want = Walking (memberAt s) (fieldIn s name seen) (length s) i want
+Looking s name seen i want = Walking (memberAt s) (λ ms. fieldIn name seen (pairs s ms)) (length s) i want
 
 module _ (s : List ℕ) (at : ℕ) (name : List ℕ) {b : ℕ} (p : b ≡ byte s at) where
   pub look-none : (b ≡ 123 → ⊥) → Absent ≡ field s at name
-  unfolding field fieldIn
-  look-none n = no-members (fieldIn s name Absent) s at p n
+  unfolding field pairs fieldIn
+  look-none n = no-members (λ ms. fieldIn name Absent (pairs s ms)) s at p n
 
   pub look-first : {i : ℕ} → b ≡ 123 → i ≡ ws s (at + 1) → i ≤ length s → Looking s name Absent i (field s at name)
   unfolding field
-  look-first e q h = first-member (fieldIn s name Absent) s at p e q h
+  look-first e q h = first-member (λ ms. fieldIn name Absent (pairs s ms)) s at p e q h
 
 module _ (s name : List ℕ) (seen : Field) (i : ℕ) {want : Field} (g : Looking s name seen i want) where
   pub look-done : memberAt s i ≡ Done → seen ≡ want
-  unfolding fieldIn
-  look-done q = at-done (memberAt s) (fieldIn s name seen) (length s) i g q
+  unfolding pairs fieldIn
+  look-done q = at-done (memberAt s) (λ ms. fieldIn name seen (pairs s ms)) (length s) i g q
 
   module _ {k e n : ℕ} (w : GotItem (memberAt s i) i (length s) (At k e n)) {t : List ℕ} {b : Bool} (x : t ≡ textAt s i) (y : b ≡ eqBytes t name) where
     hit : b ≡ eqBytes (nameOf s (record { name = i; value = k; end = e })) name
@@ -55,12 +56,12 @@ module _ (s name : List ℕ) (seen : Field) (i : ℕ) {want : Field} (g : Lookin
     hit = y ∙ ap (λ (u : List ℕ). eqBytes u name) x
 
     pub look-hit : {seen′ : Field} → b ≡ true → seen′ ≡ oneMore seen k → Looking s name seen′ n want
-    unfolding fieldIn
-    look-hit {seen′} q z = subst (λ (f : Field). Looking s name f n want) (sym z) (walking-as (fieldIn s name (oneMore seen k)) (λ ms. sym (rw (sym hit ∙ q, fieldIn))) (at-item (memberAt s) (fieldIn s name seen) (length s) i g w))
+    unfolding pairs fieldIn
+    look-hit {seen′} q z = subst (λ (f : Field). Looking s name f n want) (sym z) (walking-as (λ ms. fieldIn name (oneMore seen k) (pairs s ms)) (λ ms. sym (rw (sym hit ∙ q, fieldIn))) (at-item (memberAt s) (λ ms. fieldIn name seen (pairs s ms)) (length s) i g w))
 
     pub look-miss : b ≡ false → Looking s name seen n want
-    unfolding fieldIn
-    look-miss q = walking-as (fieldIn s name seen) (λ ms. sym (rw (sym hit ∙ q, fieldIn))) (at-item (memberAt s) (fieldIn s name seen) (length s) i g w)
+    unfolding pairs fieldIn
+    look-miss q = walking-as (λ ms. fieldIn name seen (pairs s ms)) (λ ms. sym (rw (sym hit ∙ q, fieldIn))) (at-item (memberAt s) (λ ms. fieldIn name seen (pairs s ms)) (length s) i g w)
 
 -- by the field's case
 module _ (kind : Kind) (s : List ℕ) {f : Field} where
@@ -98,14 +99,19 @@ of-kind s k c q x = x ∙ ap (λ (z : Kind). ofKind z s k) (sym q)
 abbrev pub Naming : List ℕ → ℕ → Bool → Type 0
 Naming s i want = Walking (memberAt s) (all (λ m. isPlain (nameOf s m))) (length s) i want
 
+plain-pairs : (s : List ℕ) (ms : List Member) → all (λ m. isPlain (nameOf s m)) ms ≡ plainIn (pairs s ms)
+unfolding all pairs plainIn
+plain-pairs s [] = refl
+plain-pairs s (m ∷ ms) = both (isPlain (nameOf s m)) (λ e. rw (e, all, plainIn) (plain-pairs s ms)) (λ e. rw (e, all, plainIn))
+
 module _ (s : List ℕ) (at : ℕ) {b : ℕ} (p : b ≡ byte s at) where
   pub names-none : (b ≡ 123 → ⊥) → true ≡ plainNames s at
-  unfolding plainNames all
-  names-none n = no-members (all (λ m. isPlain (nameOf s m))) s at p n
+  unfolding plainNames pairs plainIn
+  names-none n = no-members (λ ms. plainIn (pairs s ms)) s at p n
 
   pub names-first : {i : ℕ} → b ≡ 123 → i ≡ ws s (at + 1) → i ≤ length s → Naming s i (plainNames s at)
   unfolding plainNames
-  names-first e q h = first-member (all (λ m. isPlain (nameOf s m))) s at p e q h
+  names-first {i} e q h = subst (Naming s i) (plain-pairs s (members s at)) (first-member (all (λ m. isPlain (nameOf s m))) s at p e q h)
 
 pub name-plain : (s : List ℕ) (i k e : ℕ) {t : List ℕ} {b : Bool} → t ≡ textAt s i → b ≡ isPlain t → b ≡ isPlain (nameOf s (record { name = i; value = k; end = e }))
 unfolding nameOf

@@ -2,7 +2,7 @@
 use Prim.Native.Nat.{ℕ, zero, suc}
 use mathlib.Core.Path.{_≡_, refl, sym, ap, _∙_}
 use mathlib.Core.List.{List, [], _∷_, _++_}
-use mathlib.Core.Bool.{Bool, true, false, _&&_, false≢true}
+use mathlib.Core.Bool.{Bool, true, false, _&&_, _||_, false≢true, true≢false}
 use lib.ListN.{getD}
 use Rattle.text.proofs.Bytes.{and-both}
 use Rattle.fields.specs.Fields.{holds}
@@ -53,3 +53,15 @@ module _ (rs bs : List Bool) (h : holds (rs ++ bs) ≡ true) where
 
   pub holds-second : holds bs ≡ true
   holds-second = and-both (holds rs) (holds bs) (sym (holds-append rs bs) ∙ h) .1
+
+-- ---- one of two
+
+pub or-yes : (a b : Bool) → a ≡ true → true ≡ (a || b)
+or-yes a b e = rw e
+
+pub or-no : (a b r : Bool) → a ≡ false → r ≡ b → r ≡ (a || b)
+or-no a b r e q = rw e q
+
+pub or-neither : (a b : Bool) → (a || b) ≡ false → (a ≡ false) × (b ≡ false)
+or-neither true b e = absurd (true≢false e)
+or-neither false b e = (refl, e)

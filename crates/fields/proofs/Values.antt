@@ -51,6 +51,12 @@ module _ (s : List ℕ) (k : ℕ) {r : Scan} (p : r ≡ valueAt 16 s k) where
   unfolding textAt
   text-some q x = x ∙ rw (sym p ∙ q, textAt)
 
+  pub end-none : {e : ℕ} → r ≡ Bad e → part s (k + 1) 0 ≡ textAt s k
+  end-none q = sym (part-none s (k + 1) 0 (omega arith)) ∙ text-none q
+
+  pub end-some : {e : ℕ} → r ≡ End e → part s (k + 1) (e - 1) ≡ textAt s k
+  end-some q = text-some q refl
+
 -- ---- kinds
 
 module _ (s : List ℕ) (k : ℕ) {b : ℕ} (p : b ≡ byte s k) where

@@ -8,7 +8,7 @@ use Rattle.text.specs.Bytes.{eqBytes}
 use Rattle.fields.specs.declared.Kind.{Kind}
 use Rattle.fields.specs.declared.Field.{Field}
 use Rattle.fields.specs.declared.Field.the-variants.{Absent, One, Twice}
-use Rattle.fields.specs.Values.{textAt, isTrue, members, nameOf, all, isPlain, ofKind}
+use Rattle.fields.specs.Values.{textAt, isTrue, members, nameOf, isPlain, ofKind}
 
 -- no rule is broken
 unfoldable pub holds : List Bool → Bool
@@ -21,17 +21,26 @@ oneMore Absent k = One k
 oneMore (One j) k = Twice
 oneMore Twice k = Twice
 
--- what the members add to what was seen of a name
-unfoldable pub fieldIn : List ℕ → List ℕ → Field → List Member → Field
-fieldIn s name seen [] = seen
-fieldIn s name seen (m ∷ ms) = elim (eqBytes (nameOf s m) name) [
-  | true ↦ fieldIn s name (oneMore seen (m .value)) ms
-  | false ↦ fieldIn s name seen ms
+-- RFC 8259, 4: an object is "zero or more name/value pairs": a member's name, and the place of its value
+pub record Pair : Type 0 where
+  pub name : List ℕ
+  pub value : ℕ
+
+unfoldable pub pairs : List ℕ → List Member → List Pair
+pairs s [] = []
+pairs s (m ∷ ms) = record { name = nameOf s m; value = m .value } ∷ pairs s ms
+
+-- what pairs add to what was seen of a name
+unfoldable pub fieldIn : List ℕ → Field → List Pair → Field
+fieldIn name seen [] = seen
+fieldIn name seen (p ∷ ps) = elim (eqBytes (p .name) name) [
+  | true ↦ fieldIn name (oneMore seen (p .value)) ps
+  | false ↦ fieldIn name seen ps
 ]
 
 -- the field of that name in the object at `at`
 unfoldable pub field : List ℕ → ℕ → List ℕ → Field
-field s at name = fieldIn s name Absent (members s at)
+field s at name = fieldIn name Absent (pairs s (members s at))
 
 -- at most once, and then of that kind
 unfoldable pub optional : Kind → List ℕ → Field → Bool
@@ -67,6 +76,11 @@ membersIn s Absent = []
 membersIn s (One k) = members s k
 membersIn s Twice = []
 
+-- no name has a backslash
+unfoldable pub plainIn : List Pair → Bool
+plainIn [] = true
+plainIn (p ∷ ps) = elim (isPlain (p .name)) [ true ↦ plainIn ps | false ↦ false ]
+
 -- no name of the object's members has a backslash
 unfoldable pub plainNames : List ℕ → ℕ → Bool
-plainNames s at = all (λ m. isPlain (nameOf s m)) (members s at)
+plainNames s at = plainIn (pairs s (members s at))

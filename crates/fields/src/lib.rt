@@ -2,10 +2,14 @@
 use json::Item;
 use json::Scan;
 ghost use mathlib.Core.Path.{_≡_};
+ghost use mathlib.Core.Bool.{_||_};
+ghost use Prim.Native.Nat.{_+_};
+ghost use lib.Dec.{ltb};
 ghost use Rattle.text.specs.Bytes.{part};
-ghost use Rattle.fields.specs.Values.{bytesAt, textAt, isText, isObject, isArray, isTrue, isFlag, isPlain, isIdText, arrayOf, ofKind};
+ghost use Rattle.fields.specs.Values.{bytesAt, textAt, isText, isObject, isArray, isTrue, isFlag, isPlain, isIdText, members, arrayOf, ofKind};
 ghost use Rattle.fields.specs.Parts.{itemTest};
-ghost use Rattle.fields.specs.Fields.{oneMore, field, optional, flagIn, plainNames};
+ghost use Rattle.fields.specs.Fields.{oneMore, pairs, field, optional, flagIn, plainIn, plainNames};
+ghost use Rattle.fields.specs.Members.{pairsOf, fieldOf};
 
 // What a known field may hold.
 pub enum Kind {
@@ -22,6 +26,21 @@ pub enum Field {
     Absent,
     One(usize),
     Twice,
+}
+
+// A member of an object: where the bytes of its name begin and end, and where its value begins.
+pub struct MemberAt {
+    pub name: usize,
+    pub end: usize,
+    pub value: usize,
+}
+
+// The members of the object at `at`: the first `n` of `items`; or there were too many.
+pub struct Members {
+    pub at: usize,
+    pub over: bool,
+    pub n: usize,
+    pub items: [MemberAt; 32],
 }
 
 // The bytes from a place up to another, as far as there are any.
@@ -121,8 +140,8 @@ fn one_more(seen: Field, k: usize) -> Field
     }
 }
 
-// The field of that name in the object at `at`.
-pub fn lookup(s: &[u8], at: usize, name: &[u8]) -> Field
+// The field of that name in the object at `at`, by a walk through it.
+fn lookup(s: &[u8], at: usize, name: &[u8]) -> Field
     ensures { λ r. ⌜ r ≡ field (now (s .entry)) at (now (name .entry)) ⌝ }
 {
     let mut seen = Field::Absent;
@@ -143,8 +162,8 @@ pub fn lookup(s: &[u8], at: usize, name: &[u8]) -> Field
     }
 }
 
-// Whether no name in the object at `at` has a backslash.
-pub fn plain_names(s: &[u8], at: usize) -> bool
+// Whether no name in the object at `at` has a backslash, by a walk through it.
+fn plain_names(s: &[u8], at: usize) -> bool
     ensures { λ r. ⌜ r ≡ plainNames (now (s .entry)) at ⌝ }
 {
     if json::peek(s, at) != 123 {
@@ -162,6 +181,119 @@ pub fn plain_names(s: &[u8], at: usize) -> bool
             }
         }
     }
+}
+
+// Where the string at `k` has its closing quote.
+fn text_end(s: &[u8], k: usize) -> usize
+    ensures { λ r. ⌜ part (now (s .entry)) (k + 1) r ≡ textAt (now (s .entry)) k ⌝ }
+{
+    match json::value(s, k, 16) {
+        Scan::Bad(_) => 0,
+        Scan::End(e) => e - 1,
+    }
+}
+
+// The members of the object at `at`, by one walk through it.
+pub fn members_of(s: &[u8], at: usize) -> Members
+    ensures { λ r. ⌜ pairsOf (now (s .entry)) r ≡ pairs (now (s .entry)) (members (now (s .entry)) at) ⌝ }
+{
+    let none = MemberAt {
+        name: 0,
+        end: 0,
+        value: 0,
+    };
+    let mut items = [none; 32];
+    let mut n = 0;
+    if json::peek(s, at) != 123 {
+        return Members {
+            at: at,
+            over: false,
+            n: n,
+            items: items,
+        };
+    }
+    let mut i = json::skip(s, at + 1);
+    loop {
+        match json::member_at(s, i) {
+            Item::Done => {
+                return Members {
+                    at: at,
+                    over: false,
+                    n: n,
+                    items: items,
+                };
+            }
+            Item::At(k, _, next) => {
+                if n >= 32 {
+                    return Members {
+                        at: at,
+                        over: true,
+                        n: n,
+                        items: items,
+                    };
+                }
+                let x = MemberAt {
+                    name: i + 1,
+                    end: text_end(s, i),
+                    value: k,
+                };
+                items[n] = x;
+                n += 1;
+                i = next;
+            }
+        }
+    }
+}
+
+// Whether the table does not hold the members.
+fn is_over(over: bool, n: usize) -> bool
+    ensures { λ r. ⌜ r ≡ (over || ltb 32 n) ⌝ }
+{
+    if over {
+        return true;
+    }
+    n > 32
+}
+
+// The field of that name among the members.
+pub fn lookup_in(s: &[u8], m: Members, name: &[u8]) -> Field
+    ensures { λ r. ⌜ r ≡ fieldOf (now (s .entry)) m (now (name .entry)) ⌝ }
+{
+    let n = m.n;
+    let mut seen = Field::Absent;
+    if is_over(m.over, n) {
+        return lookup(s, m.at, name);
+    }
+    let items = m.items;
+    let mut j = 0;
+    while j < n {
+        let x = items[j];
+        j += 1;
+        if text::same(slice(s, x.name, x.end), name) {
+            seen = one_more(seen, x.value);
+        }
+    }
+    seen
+}
+
+// Whether no name of the members has a backslash.
+pub fn are_plain(s: &[u8], m: Members) -> bool
+    ensures { λ r. ⌜ r ≡ plainIn (pairsOf (now (s .entry)) m) ⌝ }
+{
+    let n = m.n;
+    if is_over(m.over, n) {
+        return plain_names(s, m.at);
+    }
+    let items = m.items;
+    let mut j = 0;
+    while j < n {
+        let x = items[j];
+        if !is_plain(slice(s, x.name, x.end)) {
+            return false;
+        }
+        j += 1;
+    }
+    true
 }
 
 fn is_item(s: &[u8], k: usize, ids: bool) -> bool
@@ -218,11 +350,11 @@ fn is_optional(s: &[u8], f: Field, kind: Kind) -> bool
     }
 }
 
-// Whether the field of that name in the object at `at` stands at most once, and then holds a value of that kind.
-pub fn has_optional(s: &[u8], at: usize, name: &[u8], kind: Kind) -> bool
-    ensures { λ r. ⌜ r ≡ optional kind (now (s .entry)) (field (now (s .entry)) at (now (name .entry))) ⌝ }
+// Whether the field of that name among the members stands at most once, and then holds a value of that kind.
+pub fn has_optional(s: &[u8], m: Members, name: &[u8], kind: Kind) -> bool
+    ensures { λ r. ⌜ r ≡ optional kind (now (s .entry)) (fieldOf (now (s .entry)) m (now (name .entry))) ⌝ }
 {
-    is_optional(s, lookup(s, at, name), kind)
+    is_optional(s, lookup_in(s, m, name), kind)
 }
 
 // The boolean that a field holds, or what holds where it is absent.

@@ -5,9 +5,3 @@ pub mod Numbers
 pub mod Values
 pub mod Items
 pub mod Members
-pub mod Depth
-pub mod Sound
-pub mod Complete
-pub mod Containers
-pub mod Listing
-pub mod Theorems

@@ -9,6 +9,7 @@ use lib.ListN.{length, drop, drop-of-length-le}
 use lib.Seq.{drop-cons}
 use borrow.Author.Tests.{ne-eqb, eq-eqb}
 use Rattle.abnf.specs.Accepts.{inRange}
+use Rattle.abnf.proofs.Steps.{in-range}
 use Rattle.json.specs.Bytes.{byte, Scanned}
 use Rattle.json.specs.Strings.{isHex, isEscape, plainStep, escapeStep, hexStep, textStep, text, stringAt}
 use Rattle.json.specs.declared.Scan.the-variants.{End, Bad}
@@ -90,6 +91,14 @@ pub text-stuck : (t : State) (s : List ℕ) (at : ℕ) → textStep t (byte s at
 unfolding text byte
 text-stuck t s at e = split (length s) at (λ h. rw (drop-of-length-le s h)) (λ h. rw (drop-cons s at 256 h) (rw (e, text)))
 
+-- a byte that stands for itself leads on
+pub plain-byte : (b : ℕ) → 32 ≤ b → b < 256 → (b ≡ 34 → ⊥) → (b ≡ 92 → ⊥) → plainStep b ≡ Go Plain
+plain-byte b h l f g = sym (plain-plain b f g (in-range 32 255 b h (omega arith)))
+
+pub plain-more : (s : List ℕ) (at b : ℕ) → b ≡ byte s at → plainStep b ≡ Go Plain → text Plain (drop (at + 1) s) (at + 1) ≡ text Plain (drop at s) at
+unfolding textStep
+plain-more s at b p e = sym (text-go Plain Plain s at (ap plainStep (sym p) ∙ e))
+
 -- ---- the loop over a string that begins at `at` has come to i, in state t
 pub record Reading (s : List ℕ) (at : ℕ) (t : State) (i : ℕ) : Type 0 where
   pub past : at < i
@@ -107,6 +116,9 @@ module _ (s : List ℕ) (at : ℕ) {b : ℕ} (p : b ≡ byte s at) where
   pub string-start : b ≡ 34 → Reading s at Plain (at + 1)
   unfolding stringAt
   string-start q = let h = string-inside q in record { past = omega arith; to = omega arith; same = sym (rw (eq-eqb (byte s at) 34 (sym p ∙ q), stringAt)) }
+
+pub string-run : {s : List ℕ} {at i j : ℕ} → Reading s at Plain i → (i ≤ j) × (j ≤ length s) × (text Plain (drop j s) j ≡ text Plain (drop i s) i) → Reading s at Plain j
+string-run v h = record { past = omega (arith, v .past, h .0); to = h .1; same = h .2 ∙ v .same }
 
 module _ {s : List ℕ} {at : ℕ} {t : State} {i : ℕ} (v : Reading s at t i) {b : ℕ} (p : b ≡ byte s i) {m : Move} (q : m ≡ textStep t b) where
   now-step : {n : Move} → m ≡ n → textStep t (byte s i) ≡ n

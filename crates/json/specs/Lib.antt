@@ -3,6 +3,4 @@ pub mod Strings
 pub mod Number
 pub mod Value
 pub mod Members
-pub mod Rfc8259
-pub mod Listing
 pub mod Examples

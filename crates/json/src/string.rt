@@ -3,9 +3,13 @@ use super::in_range;
 use super::peek;
 use crate::Scan;
 ghost use mathlib.Core.Path.{_≡_};
-ghost use lib.ListN.{length};
+ghost use Prim.Native.Nat.{_≤_};
+ghost use lib.ListN.{length, drop};
 ghost use Rattle.json.specs.Bytes.{Scanned};
-ghost use Rattle.json.specs.Strings.{isHex, isEscape, plainStep, escapeStep, hexStep, textStep, stringAt};
+ghost use Rattle.json.specs.Strings.{isHex, isEscape, plainStep, escapeStep, hexStep, textStep, text, stringAt};
+ghost use mathlib.Core.Bool.{true};
+ghost use Rattle.json.specs.declared.string.State.the-variants.{Plain};
+ghost use Rattle.json.specs.declared.string.Move.the-variants.{Go};
 
 // Within a string: plain, after a backslash, or with so many hex digits to come.
 pub enum State {
@@ -104,6 +108,37 @@ fn text_step(t: State, b: u16) -> Move
     }
 }
 
+// Whether a byte stands for itself.
+fn is_plain(b: u8) -> bool
+    ensures { λ r. ⌜ (r ≡ true → plainStep b ≡ Go Plain) ⌝ }
+{
+    if b < 32 {
+        return false;
+    }
+    if b == 34 {
+        return false;
+    }
+    if b == 92 {
+        return false;
+    }
+    true
+}
+
+// Past the bytes from `at` on that stand for themselves.
+fn plain_run(s: &[u8], at: usize) -> usize
+    requires { ⌜ at ≤ length (now s) ⌝ }
+    ensures { λ r. ⌜ (at ≤ r) × (r ≤ length (now (s .entry))) × (text Plain (drop r (now (s .entry))) r ≡ text Plain (drop at (now (s .entry))) at) ⌝ }
+{
+    let mut i = at;
+    while i < s.len() {
+        if !is_plain(s[i]) {
+            return i;
+        }
+        i += 1;
+    }
+    i
+}
+
 // The string at `at`, from its opening quote.
 pub fn string(s: &[u8], at: usize) -> Scan
     ensures { λ r. ⌜ Scanned (stringAt (now (s .entry)) at) at (length (now (s .entry))) r ⌝ }
@@ -112,7 +147,7 @@ pub fn string(s: &[u8], at: usize) -> Scan
         return Scan::Bad(at);
     }
     let mut t = State::Plain;
-    let mut i = at + 1;
+    let mut i = plain_run(s, at + 1);
     loop {
         match text_step(t, peek(s, i)) {
             Move::Go(u) => {

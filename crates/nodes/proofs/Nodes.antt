@@ -10,8 +10,12 @@ use Rattle.json.specs.Bytes.{byte, ws}
 use Rattle.json.specs.Members.{Member, memberAt, GotItem}
 use Rattle.json.specs.declared.Item.{Item}
 use Rattle.json.specs.declared.Item.the-variants.{At, Done}
-use Rattle.fields.specs.Values.{textAt, members, all}
-use Rattle.fields.specs.Fields.{holds, field, isTwice, membersIn}
+use Rattle.fields.specs.Values.{textAt, isObject, members, all}
+use Rattle.fields.specs.Fields.{holds, pairs, field, optional, isTwice, membersIn, plainIn}
+use Rattle.fields.specs.Members.{pairsOf, fieldOf}
+use Rattle.fields.specs.declared.Members.{Members}
+use Rattle.fields.specs.declared.Kind.the-variants.{Text, Object}
+use Rattle.fields.proofs.Table.{field-of, plain-of}
 use Rattle.fields.specs.declared.Field.{Field}
 use Rattle.fields.specs.declared.Field.the-variants.{Absent, One, Twice}
 use Rattle.fields.proofs.Walk.{Walking, walking-as, at-done, at-item, no-members, first-member}
@@ -19,22 +23,23 @@ use Rattle.fields.proofs.Rules.{broken, kept, last}
 use Rattle.properties.specs.Property.{Property, propertyAt}
 use Rattle.properties.specs.Entries.{put, putAll, collected}
 use Rattle.properties.proofs.Collection.{put-all-append, collects}
-use Rattle.nodes.specs.Names.{properties}
-use Rattle.nodes.specs.Nodes.{idRules, each, propertiesAmong, propertiesOf}
+use Rattle.nodes.specs.Names.{name, type, properties}
+use Rattle.nodes.specs.Nodes.{idRules, each, propertyMember, nodeRules, propertiesAmong, propertiesOf}
+use Rattle.nodes.specs.Parts.{idRulesIn}
 
 -- ---- an ID that no other member has
 
-module _ (s : List ℕ) (at i : ℕ) {t : List ℕ} {b : Bool} (p : t ≡ textAt s i) (q : b ≡ isId t) where
-  pub id-no : b ≡ false → false ≡ holds (idRules s at i)
-  unfolding idRules
+module _ (s : List ℕ) (m : Members) (i : ℕ) {t : List ℕ} {b : Bool} (p : t ≡ textAt s i) (q : b ≡ isId t) where
+  pub id-no : b ≡ false → false ≡ holds (idRulesIn s m i)
+  unfolding idRulesIn
   id-no e = broken _ (q ∙ ap isId p) e
 
-  module _ (e : b ≡ true) {u : List ℕ} {f : Field} (x : u ≡ textAt s i) (y : f ≡ field s at u) where
-    found : f ≡ field s at (textAt s i)
-    found = y ∙ ap (field s at) x
+  module _ (e : b ≡ true) {u : List ℕ} {f : Field} (x : u ≡ textAt s i) (y : f ≡ fieldOf s m u) where
+    found : f ≡ fieldOf s m (textAt s i)
+    found = y ∙ ap (fieldOf s m) x
 
-    pub id-once : {r : Bool} → r ≡ not (isTwice f) → r ≡ holds (idRules s at i)
-    unfolding idRules
+    pub id-once : {r : Bool} → r ≡ not (isTwice f) → r ≡ holds (idRulesIn s m i)
+    unfolding idRulesIn
     id-once z = kept _ (q ∙ ap isId p) e (last (z ∙ ap (λ (g : Field). not (isTwice g)) found))
 
 module _ {f : Field} where
@@ -49,6 +54,26 @@ module _ {f : Field} where
   pub once-twice : f ≡ Twice → false ≡ not (isTwice f)
   unfolding isTwice
   once-twice q = rw q
+
+-- ---- the rules, read in the table of the object's members
+
+module _ (s : List ℕ) (at : ℕ) (m : Members) (h : pairsOf s m ≡ pairs s (members s at)) where
+  pub ids-by-table : (i : ℕ) (rs : List Bool) {r : Bool} → r ≡ holds (idRulesIn s m i ++ rs) → r ≡ holds (idRules s at i ++ rs)
+  unfolding idRulesIn idRules
+  ids-by-table i rs x = x ∙ rw (field-of s at m h (textAt s i))
+
+unfoldable pub nodeRulesIn : List ℕ → ℕ → Members → List Bool
+nodeRulesIn s k m =
+    isObject s k ∷
+    plainIn (pairsOf s m) ∷
+    optional Text s (fieldOf s m name) ∷
+    optional Text s (fieldOf s m type) ∷
+    optional Object s (fieldOf s m properties) ∷
+    each (propertyMember s) s (fieldOf s m properties) ∷ []
+
+pub node-by-table : (s : List ℕ) (k : ℕ) (m : Members) {r : Bool} → pairsOf s m ≡ pairs s (members s k) → r ≡ holds (nodeRulesIn s k m) → r ≡ holds (nodeRules s k)
+unfolding nodeRulesIn nodeRules
+node-by-table s k m h x = x ∙ rw (plain-of s k m h, field-of s k m h name, field-of s k m h type, field-of s k m h properties)
 
 -- ---- the members of a field's object
 

@@ -1,2 +1,3 @@
 pub mod Names
 pub mod Nodes
+pub mod Parts

@@ -1,6 +1,7 @@
 // The nodes of a description: judged, and their properties listed.
 use fields::Field;
 use fields::Kind;
+use fields::Members;
 use json::Item;
 use properties::Entries;
 ghost use mathlib.Core.Path.{_≡_};
@@ -10,27 +11,28 @@ ghost use Rattle.fields.specs.Fields.{holds, field, membersIn};
 ghost use Rattle.properties.specs.Property.{propertyRules};
 ghost use Rattle.properties.specs.Entries.{view, putAll, collected};
 ghost use Rattle.nodes.specs.Names.{properties};
-ghost use Rattle.nodes.specs.Nodes.{idRules, propertyMember, each, nodeRules, nodeMember, propertiesAmong, propertiesOf};
+ghost use Rattle.nodes.specs.Parts.{idRulesIn};
+ghost use Rattle.nodes.specs.Nodes.{propertyMember, each, nodeRules, nodeMember, propertiesAmong, propertiesOf};
 
-// Whether the string at `i` is an ID, and names one member of the object at `at`.
-fn is_id_once(s: &[u8], at: usize, i: usize) -> bool
-    ensures { λ r. ⌜ r ≡ holds (idRules (now (s .entry)) at i) ⌝ }
+// Whether the string at `i` is an ID, and names one of the members.
+fn is_id_once(s: &[u8], m: Members, i: usize) -> bool
+    ensures { λ r. ⌜ r ≡ holds (idRulesIn (now (s .entry)) m i) ⌝ }
 {
     if !text::is_id(fields::text_at(s, i)) {
         return false;
     }
-    match fields::lookup(s, at, fields::text_at(s, i)) {
+    match fields::lookup_in(s, m, fields::text_at(s, i)) {
         Field::Absent => true,
         Field::One(_) => true,
         Field::Twice => false,
     }
 }
 
-// Whether a member of the object at `at`, its name at `i` and its value at `k`, is a valid property.
-fn is_property_member(s: &[u8], at: usize, i: usize, k: usize) -> bool
-    ensures { λ r. ⌜ r ≡ holds (idRules (now (s .entry)) at i ++ propertyRules (now (s .entry)) k) ⌝ }
+// Whether one of the members, its name at `i` and its value at `k`, is a valid property.
+fn is_property_member(s: &[u8], m: Members, i: usize, k: usize) -> bool
+    ensures { λ r. ⌜ r ≡ holds (idRulesIn (now (s .entry)) m i ++ propertyRules (now (s .entry)) k) ⌝ }
 {
-    if !is_id_once(s, at, i) {
+    if !is_id_once(s, m, i) {
         return false;
     }
     properties::is_property(s, k)
@@ -43,12 +45,13 @@ fn are_properties(s: &[u8], at: usize) -> bool
     if json::peek(s, at) != 123 {
         return true;
     }
+    let m = fields::members_of(s, at);
     let mut i = json::skip(s, at + 1);
     loop {
         match json::member_at(s, i) {
             Item::Done => return true,
             Item::At(k, _, n) => {
-                if !is_property_member(s, at, i, k) {
+                if !is_property_member(s, m, i, k) {
                     return false;
                 }
                 i = n;
@@ -74,26 +77,27 @@ fn is_node(s: &[u8], k: usize) -> bool
     if !fields::is_object(s, k) {
         return false;
     }
-    if !fields::plain_names(s, k) {
+    let m = fields::members_of(s, k);
+    if !fields::are_plain(s, m) {
         return false;
     }
-    if !fields::has_optional(s, k, b"name", Kind::Text) {
+    if !fields::has_optional(s, m, b"name", Kind::Text) {
         return false;
     }
-    if !fields::has_optional(s, k, b"type", Kind::Text) {
+    if !fields::has_optional(s, m, b"type", Kind::Text) {
         return false;
     }
-    if !fields::has_optional(s, k, b"properties", Kind::Object) {
+    if !fields::has_optional(s, m, b"properties", Kind::Object) {
         return false;
     }
-    has_properties(s, fields::lookup(s, k, b"properties"))
+    has_properties(s, fields::lookup_in(s, m, b"properties"))
 }
 
-// Whether a member of the object at `at`, its name at `i` and its value at `k`, is a valid node.
-fn is_node_member(s: &[u8], at: usize, i: usize, k: usize) -> bool
-    ensures { λ r. ⌜ r ≡ holds (idRules (now (s .entry)) at i ++ nodeRules (now (s .entry)) k) ⌝ }
+// Whether one of the members, its name at `i` and its value at `k`, is a valid node.
+fn is_node_member(s: &[u8], m: Members, i: usize, k: usize) -> bool
+    ensures { λ r. ⌜ r ≡ holds (idRulesIn (now (s .entry)) m i ++ nodeRules (now (s .entry)) k) ⌝ }
 {
-    if !is_id_once(s, at, i) {
+    if !is_id_once(s, m, i) {
         return false;
     }
     is_node(s, k)
@@ -106,12 +110,13 @@ fn are_nodes(s: &[u8], at: usize) -> bool
     if json::peek(s, at) != 123 {
         return true;
     }
+    let m = fields::members_of(s, at);
     let mut i = json::skip(s, at + 1);
     loop {
         match json::member_at(s, i) {
             Item::Done => return true,
             Item::At(k, _, n) => {
-                if !is_node_member(s, at, i, k) {
+                if !is_node_member(s, m, i, k) {
                     return false;
                 }
                 i = n;
@@ -155,7 +160,8 @@ fn add_properties(s: &[u8], node: usize, at: usize, before: Entries) -> Entries
 fn add_node(s: &[u8], i: usize, k: usize, l: Entries) -> Entries
     ensures { λ r. ⌜ view (now (s .entry)) r ≡ putAll (propertiesAmong (now (s .entry)) i (membersIn (now (s .entry)) (field (now (s .entry)) k properties))) (view (now (s .entry)) l) ⌝ }
 {
-    match fields::lookup(s, k, b"properties") {
+    let m = fields::members_of(s, k);
+    match fields::lookup_in(s, m, b"properties") {
         Field::Absent => l,
         Field::One(p) => add_properties(s, i, p, l),
         Field::Twice => l,

@@ -14,6 +14,7 @@ use borrow.Author.Tests.{lt-ltb, le-ltb, leb-true, leb-false}
 use Rattle.text.specs.Bytes.{eqBytes, lessBytes}
 use Rattle.text.proofs.Bytes.{both, at-most}
 use Rattle.fields.specs.Values.{textAt}
+use Rattle.fields.proofs.Rules.{or-neither}
 use Rattle.properties.specs.declared.Entry.{Entry}
 use Rattle.properties.specs.declared.Entries.{Entries}
 use Rattle.properties.specs.Property.{Property, isBefore, insert}
@@ -40,12 +41,6 @@ module _ (s : List ℕ) (x y : Entry) {a b : List ℕ} (p : a ≡ textAt s (x .n
     pub before-ids : {t u : List ℕ} {r : Bool} → m ≡ true → t ≡ textAt s (x .id) → u ≡ textAt s (y .id) → r ≡ lessBytes t u → r ≡ isBefore (content s x) (content s y)
     unfolding isBefore content
     before-ids k v w z = z ∙ rw (sym less ∙ h, sym eq ∙ k, v, w)
-
-pub placed-yes : (a b : Bool) → a ≡ true → true ≡ (a || b)
-placed-yes a b e = rw e
-
-pub placed-no : (a b r : Bool) → a ≡ false → r ≡ b → r ≡ (a || b)
-placed-no a b r e q = rw e q
 
 -- ---- the insertion: the entries before j are in place, the carried one goes in among the rest
 
@@ -188,10 +183,6 @@ unfolding view contents
 view-empty s l e q = view-some s l e (omega (arith, q)) ∙ ap (λ (n : ℕ). some (contents s (take n (l .items)))) q
 
 -- ---- room for one more
-
-pub or-neither : (a b : Bool) → (a || b) ≡ false → (a ≡ false) × (b ≡ false)
-or-neither true b e = absurd (true≢false e)
-or-neither false b e = (refl, e)
 
 module _ (over : Bool) (n : ℕ) {f : Bool} (p : f ≡ (over || leb 24 n)) (e : f ≡ false) where
   pub room-over : over ≡ false

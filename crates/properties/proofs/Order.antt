@@ -11,7 +11,7 @@ use Rattle.text.proofs.Bytes.{both, and-both, eqBytes-yes}
 use Rattle.text.proofs.Order.{less-total}
 use Rattle.properties.specs.Property.{Property, isBefore, insert, insertAll}
 use Rattle.properties.specs.Valid.{In, here, later, ascendsFrom, ascends, Arranged, Differ, Apart, none, more}
-use Rattle.properties.proofs.Insertion.{or-neither}
+use Rattle.fields.proofs.Rules.{or-neither}
 use Rattle.properties.proofs.Lists.{in-none, in-append, in-insert, put-in, is-in, all-length}
 
 or-second : (a : Bool) → (a || true) ≡ true

@@ -4,8 +4,12 @@ use mathlib.Core.Path.{_≡_, refl, sym, ap, _∙_}
 use mathlib.Core.List.{List, [], _∷_}
 use mathlib.Core.Bool.{Bool, true, false, _&&_}
 use mathlib.Core.Option.{Option, none, some}
-use Rattle.fields.specs.Values.{textAt, isText, isPlain}
-use Rattle.fields.specs.Fields.{field, textIn, flagIn}
+use Rattle.fields.specs.Values.{textAt, isText, isObject, isPlain, members}
+use Rattle.fields.specs.Fields.{pairs, field, holds, optional, textIn, flagIn, plainIn}
+use Rattle.fields.specs.Members.{pairsOf, fieldOf}
+use Rattle.fields.specs.declared.Members.{Members}
+use Rattle.fields.specs.declared.Kind.the-variants.{Text, Flag}
+use Rattle.fields.proofs.Table.{field-of, plain-of}
 use Rattle.fields.specs.declared.Field.{Field}
 use Rattle.fields.specs.declared.Field.the-variants.{Absent, One, Twice}
 use Rattle.payload.specs.Datatypes.{named, datatypeNamed}
@@ -17,8 +21,8 @@ use Rattle.payload.specs.declared.Named.the-variants.{Known, Unknown}
 use Rattle.payload.specs.declared.Format.{Format}
 use Rattle.payload.specs.declared.Format.the-variants.{Bad, AsGiven, Colon, FalseTrue, NotKept}
 use Rattle.properties.specs.declared.Entry.{Entry}
-use Rattle.properties.specs.Names.{datatype, format, settable, retained}
-use Rattle.properties.specs.Property.{datatypeIn, isNamed, plainText, formatFits, Property, typeOf, textOf, propertyAt}
+use Rattle.properties.specs.Names.{datatype, name, unit, format, settable, retained}
+use Rattle.properties.specs.Property.{datatypeIn, isNamed, plainText, formatFits, propertyRules, Property, typeOf, textOf, propertyAt}
 use Rattle.properties.specs.Parts.{isOne}
 use Rattle.properties.specs.Entries.{content}
 
@@ -132,6 +136,24 @@ module _ {o : Option Datatype} where
   pub fit-some : (s : List ℕ) {d : Datatype} {f g : Field} {r : Bool} → o ≡ some d → f ≡ g → r ≡ formatFits (some d) (textIn s f) → r ≡ formatFits o (textIn s g)
   fit-some s q e x = x ∙ rw (e, q)
 
+-- ---- the rules, read in the table of the property's members
+
+unfoldable pub rulesIn : List ℕ → ℕ → Members → List Bool
+rulesIn s k m =
+    isObject s k ∷
+    plainIn (pairsOf s m) ∷
+    isNamed (datatypeIn s (fieldOf s m datatype)) ∷
+    optional Text s (fieldOf s m name) ∷
+    optional Text s (fieldOf s m unit) ∷
+    optional Text s (fieldOf s m format) ∷
+    formatFits (datatypeIn s (fieldOf s m datatype)) (textIn s (fieldOf s m format)) ∷
+    optional Flag s (fieldOf s m settable) ∷
+    optional Flag s (fieldOf s m retained) ∷ []
+
+pub by-table : (s : List ℕ) (k : ℕ) (m : Members) {r : Bool} → pairsOf s m ≡ pairs s (members s k) → r ≡ holds (rulesIn s k m) → r ≡ holds (propertyRules s k)
+unfolding rulesIn propertyRules
+by-table s k m h x = x ∙ rw (plain-of s k m h, field-of s k m h datatype, field-of s k m h name, field-of s k m h unit, field-of s k m h format, field-of s k m h settable, field-of s k m h retained)
+
 -- ---- what a property declares
 
 pub typed-no : {o : Option Datatype} → o ≡ none → String ≡ typeOf o
@@ -141,6 +163,9 @@ typed-no q = sym (ap typeOf q)
 pub typed : {o : Option Datatype} {d : Datatype} → o ≡ some d → d ≡ typeOf o
 unfolding typeOf
 typed q = sym (ap typeOf q)
+
+pub type-as : (s : List ℕ) {d : Datatype} {f g : Field} → d ≡ typeOf (datatypeIn s f) → f ≡ g → d ≡ typeOf (datatypeIn s g)
+type-as s p e = p ∙ ap (λ (f : Field). typeOf (datatypeIn s f)) e
 
 module _ (s : List ℕ) (node id k : ℕ) {f : Field} (p : f ≡ field s k format) {a b : Bool} (q : a ≡ flagIn s false (field s k settable)) (u : b ≡ flagIn s true (field s k retained)) where
   pub declares : (d : Datatype) (r : Format) → d ≡ typeOf (datatypeIn s (field s k datatype)) → keptBytes (textOf (textIn s f)) r ≡ keptFormat d (textIn s f)

@@ -1,6 +1,7 @@
 // The properties that a description declares, in the order of node ID and property ID.
 use fields::Field;
 use fields::Kind;
+use fields::Members;
 use payload::Datatype;
 use payload::Format;
 use payload::Named;
@@ -12,7 +13,8 @@ ghost use lib.Dec.{leb};
 ghost use mathlib.Core.Option.{some};
 ghost use Rattle.payload.specs.Datatypes.{named};
 ghost use Rattle.payload.specs.Formats.{keptFormat, keptBytes};
-ghost use Rattle.fields.specs.Fields.{field, textIn, holds};
+ghost use Rattle.fields.specs.Fields.{textIn, holds};
+ghost use Rattle.fields.specs.Members.{fieldOf};
 ghost use Rattle.properties.specs.Names.{datatype, format};
 ghost use Rattle.properties.specs.Property.{isBefore, datatypeIn, isNamed, plainText, formatFits, propertyRules, typeOf, textOf, propertyAt};
 ghost use Rattle.properties.specs.Parts.{isOne};
@@ -186,33 +188,33 @@ fn format_fits(s: &[u8], d: Datatype, f: Field) -> bool
     is_plain_kept(format_in(s, f), kept_format(s, d, f))
 }
 
-// Whether the property at `k` names a datatype.
-fn has_datatype(s: &[u8], k: usize) -> bool
-    ensures { λ r. ⌜ r ≡ isNamed (datatypeIn (now (s .entry)) (field (now (s .entry)) k datatype)) ⌝ }
+// Whether the property with these members names a datatype.
+fn has_datatype(s: &[u8], m: Members) -> bool
+    ensures { λ r. ⌜ r ≡ isNamed (datatypeIn (now (s .entry)) (fieldOf (now (s .entry)) m datatype)) ⌝ }
 {
-    match datatype_in(s, fields::lookup(s, k, b"datatype")) {
+    match datatype_in(s, fields::lookup_in(s, m, b"datatype")) {
         Named::Unknown => false,
         Named::Known(_) => true,
     }
 }
 
-// The datatype of the property at `k`.
-fn datatype_at(s: &[u8], k: usize) -> Datatype
-    ensures { λ r. ⌜ r ≡ typeOf (datatypeIn (now (s .entry)) (field (now (s .entry)) k datatype)) ⌝ }
+// The datatype of the property with these members.
+fn datatype_at(s: &[u8], m: Members) -> Datatype
+    ensures { λ r. ⌜ r ≡ typeOf (datatypeIn (now (s .entry)) (fieldOf (now (s .entry)) m datatype)) ⌝ }
 {
-    match datatype_in(s, fields::lookup(s, k, b"datatype")) {
+    match datatype_in(s, fields::lookup_in(s, m, b"datatype")) {
         Named::Unknown => Datatype::String,
         Named::Known(d) => d,
     }
 }
 
-// Whether the format of the property at `k` fits its datatype.
-fn has_format(s: &[u8], k: usize) -> bool
-    ensures { λ r. ⌜ r ≡ formatFits (datatypeIn (now (s .entry)) (field (now (s .entry)) k datatype)) (textIn (now (s .entry)) (field (now (s .entry)) k format)) ⌝ }
+// Whether the format of the property with these members fits its datatype.
+fn has_format(s: &[u8], m: Members) -> bool
+    ensures { λ r. ⌜ r ≡ formatFits (datatypeIn (now (s .entry)) (fieldOf (now (s .entry)) m datatype)) (textIn (now (s .entry)) (fieldOf (now (s .entry)) m format)) ⌝ }
 {
-    match datatype_in(s, fields::lookup(s, k, b"datatype")) {
+    match datatype_in(s, fields::lookup_in(s, m, b"datatype")) {
         Named::Unknown => true,
-        Named::Known(d) => format_fits(s, d, fields::lookup(s, k, b"format")),
+        Named::Known(d) => format_fits(s, d, fields::lookup_in(s, m, b"format")),
     }
 }
 
@@ -223,39 +225,41 @@ pub fn is_property(s: &[u8], k: usize) -> bool
     if !fields::is_object(s, k) {
         return false;
     }
-    if !fields::plain_names(s, k) {
+    let m = fields::members_of(s, k);
+    if !fields::are_plain(s, m) {
         return false;
     }
-    if !has_datatype(s, k) {
+    if !has_datatype(s, m) {
         return false;
     }
-    if !fields::has_optional(s, k, b"name", Kind::Text) {
+    if !fields::has_optional(s, m, b"name", Kind::Text) {
         return false;
     }
-    if !fields::has_optional(s, k, b"unit", Kind::Text) {
+    if !fields::has_optional(s, m, b"unit", Kind::Text) {
         return false;
     }
-    if !fields::has_optional(s, k, b"format", Kind::Text) {
+    if !fields::has_optional(s, m, b"format", Kind::Text) {
         return false;
     }
-    if !has_format(s, k) {
+    if !has_format(s, m) {
         return false;
     }
-    if !fields::has_optional(s, k, b"settable", Kind::Flag) {
+    if !fields::has_optional(s, m, b"settable", Kind::Flag) {
         return false;
     }
-    fields::has_optional(s, k, b"retained", Kind::Flag)
+    fields::has_optional(s, m, b"retained", Kind::Flag)
 }
 
 // The property whose object is at `k`, named by the strings at `node` and `id`.
 pub fn entry_at(s: &[u8], node: usize, id: usize, k: usize) -> Entry
     ensures { λ r. ⌜ content (now (s .entry)) r ≡ propertyAt (now (s .entry)) node id k ⌝ }
 {
-    let d = datatype_at(s, k);
-    let f = fields::lookup(s, k, b"format");
+    let m = fields::members_of(s, k);
+    let d = datatype_at(s, m);
+    let f = fields::lookup_in(s, m, b"format");
     let kept = kept_format(s, d, f);
-    let settable = fields::flag_in(s, fields::lookup(s, k, b"settable"), false);
-    let retained = fields::flag_in(s, fields::lookup(s, k, b"retained"), true);
+    let settable = fields::flag_in(s, fields::lookup_in(s, m, b"settable"), false);
+    let retained = fields::flag_in(s, fields::lookup_in(s, m, b"retained"), true);
     Entry {
         node: node,
         id: id,

@@ -7,7 +7,7 @@ use mathlib.Core.List.{List, [], _∷_}
 use mathlib.Core.Bool.{Bool, true, false, _&&_, _||_, false≢true, and-false}
 use lib.Dec.{ltb, leb, eqb}
 use lib.ListN.{length, drop, getD, drop-of-length-le}
-use lib.Seq.{drop-cons, drop-length}
+use lib.Seq.{drop-cons}
 use borrow.Author.Tests.{leb-true, leb-false, eqb-true, le-ltb, eq-eqb, ne-eqb}
 use Rattle.abnf.specs.Accepts.{inRange}
 use Rattle.text.specs.Bytes.{eqBytes, lessBytes}
@@ -33,29 +33,12 @@ in-range lo hi b e = let q = and-both (leb lo b) (leb b hi) e in (leb-true lo b 
 
 -- ---- equality
 
--- one element more
-pub eq-step : (a b : List ℕ) (i : ℕ) → i < length a → i < length b → eqBytes (drop i a) (drop i b) ≡ (eqb (getD a i 0) (getD b i 0) && eqBytes (drop (i + 1) a) (drop (i + 1) b))
-unfolding eqBytes
-eq-step a b i h k = rw (add-one, drop-cons a i 0, drop-cons b i 0)
-
 pub eq-long : (a b : List ℕ) → (length a ≡ length b → ⊥) → eqBytes a b ≡ false
 unfolding eqBytes
 eq-long [] [] n = absurd (n refl)
 eq-long [] (y ∷ b) n = refl
 eq-long (x ∷ a) [] n = refl
 eq-long (x ∷ a) (y ∷ b) n = rw (eq-long a b (λ e. n (ap suc e))) (and-false (eqb x y))
-
-module _ (a b : List ℕ) (i : ℕ) where
-  pub eq-end : i ≡ length a → length a ≡ length b → eqBytes (drop i a) (drop i b) ≡ true
-  unfolding eqBytes
-  eq-end e f = ap (λ (k : ℕ). eqBytes (drop k a) (drop k b)) e ∙ rw (drop-length a, f, drop-length b)
-
-  module _ (h : i < length a) (k : i < length b) (inv : eqBytes a b ≡ eqBytes (drop i a) (drop i b)) where
-    pub eq-differs : (getD a i 0 ≡ getD b i 0 → ⊥) → false ≡ eqBytes a b
-    eq-differs n = sym (inv ∙ eq-step a b i h k ∙ rw (ne-eqb (getD a i 0) (getD b i 0) n))
-
-    pub eq-next : getD a i 0 ≡ getD b i 0 → eqBytes a b ≡ eqBytes (drop (i + 1) a) (drop (i + 1) b)
-    eq-next e = inv ∙ eq-step a b i h k ∙ rw (eq-eqb (getD a i 0) (getD b i 0) e)
 
 pub eqBytes-refl : (a : List ℕ) → eqBytes a a ≡ true
 unfolding eqBytes
@@ -79,6 +62,17 @@ eqBytes-yes a b p = rw p (eqBytes-refl b)
 
 pub eqBytes-no : (a b : List ℕ) → (a ≡ b → ⊥) → eqBytes a b ≡ false
 eqBytes-no a b n = both (eqBytes a b) (λ e. absurd (n (eqBytes-true a b e))) (λ e. e)
+
+-- two strings that are equal behind the byte at i
+module _ (a b : List ℕ) (i : ℕ) where
+  pub eq-end : i ≡ length a → length a ≡ length b → drop i a ≡ drop i b
+  eq-end e f = drop-of-length-le a {i = i} (omega arith) ∙ sym (drop-of-length-le b {i = i} (omega arith))
+
+  pub eq-differs : (getD a i 0 ≡ getD b i 0 → ⊥) → false ≡ eqBytes a b
+  eq-differs n = sym (eqBytes-no a b (λ p. n (ap (λ (l : List ℕ). getD l i 0) p)))
+
+  pub eq-back : i < length a → i < length b → drop (i + 1) a ≡ drop (i + 1) b → getD a i 0 ≡ getD b i 0 → drop i a ≡ drop i b
+  eq-back h k e f = rw (drop-cons a i 0 h, drop-cons b i 0 k, ← add-one i, e, f)
 
 pub eqBytes-sym : (a b : List ℕ) → eqBytes a b ≡ eqBytes b a
 eqBytes-sym a b = both (eqBytes a b)

@@ -10,19 +10,19 @@ ghost use Rattle.text.specs.Utf8.{UTF8-octets, startsBom, isText};
 ghost use Rattle.text.specs.Parts.{low, high, first, next};
 ghost use Prim.Native.Nat.{_<_};
 
-// Whether two byte strings are equal.
+// Whether two byte strings are equal. From the end on: IDs of one house mostly begin alike.
 pub fn same(a: &[u8], b: &[u8]) -> bool
     ensures { λ r. ⌜ r ≡ eqBytes (now (a .entry)) (now (b .entry)) ⌝ }
 {
     if a.len() != b.len() {
         return false;
     }
-    let mut i = 0;
-    while i < a.len() {
+    let mut i = a.len();
+    while i > 0 {
+        i -= 1;
         if a[i] != b[i] {
             return false;
         }
-        i += 1;
     }
     true
 }

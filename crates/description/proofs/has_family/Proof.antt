@@ -1,6 +1,7 @@
 use borrow.Author.Tests.{not-true, not-false}
 use mathlib.Core.Path.{_∙_, ap}
-use Rattle.description.specs.Description.{familyRules, isOther}
+use Rattle.description.specs.Description.{isOther}
+use Rattle.description.specs.Parts.{familyRulesIn}
 use Rattle.fields.proofs.Rules.{broken, kept, last}
 use borrow.Author.Needs.{needs}
 use Rattle.description.proofs.has_family.Statement.{statement}
@@ -10,34 +11,34 @@ has-root-requires : tie.Need-has-root-requires
 has-root-requires c κs = search needs
 
 returns : tie.Need-returns
-unfolding familyRules
+unfolding familyRulesIn
 returns c = broken _ (c .before .has-root .ensures) (not-true _ (c .if1 .taken))
 
-slice-aggregate-lookup : tie.Need-slice-aggregate-lookup
-slice-aggregate-lookup c = search needs
+slice-aggregate-lookup-in : tie.Need-slice-aggregate-lookup-in
+slice-aggregate-lookup-in c = search needs
 
-lookup-requires : tie.Need-lookup-requires
-lookup-requires c κs = search needs
+lookup-in-requires : tie.Need-lookup-in-requires
+lookup-in-requires c κs = search needs
 
 is-other-requires : tie.Need-is-other-requires
 is-other-requires c κs = search needs
 
 returns-2 : tie.Need-returns-2
-unfolding familyRules
-returns-2 c = kept _ (c .before .before .before .before .before .has-root .ensures) (not-false _ (c .before .before .before .before .if1 .left)) (broken _ (c .before .is-other .ensures ∙ ap (isOther _ _) (c .before .before .lookup .ensures)) (not-true _ (c .if2 .taken)))
+unfolding familyRulesIn
+returns-2 c = kept _ (c .before .before .before .before .before .has-root .ensures) (not-false _ (c .before .before .before .before .if1 .left)) (broken _ (c .before .is-other .ensures ∙ ap (isOther _ _) (c .before .before .lookup-in .ensures)) (not-true _ (c .if2 .taken)))
 
-slice-aggregate-lookup-2 : tie.Need-slice-aggregate-lookup-2
-slice-aggregate-lookup-2 c = search needs
+slice-aggregate-lookup-in-2 : tie.Need-slice-aggregate-lookup-in-2
+slice-aggregate-lookup-in-2 c = search needs
 
-lookup-requires-2 : tie.Need-lookup-requires-2
-lookup-requires-2 c κs = search needs
+lookup-in-requires-2 : tie.Need-lookup-in-requires-2
+lookup-in-requires-2 c κs = search needs
 
 is-other-requires-2 : tie.Need-is-other-requires-2
 is-other-requires-2 c κs = search needs
 
 returns-3 : tie.Need-returns-3
-unfolding familyRules
-returns-3 c = kept _ (c .before .before .before .before .before .before .before .before .has-root .ensures) (not-false _ (c .before .before .before .before .before .before .before .if1 .left)) (kept _ (c .before .before .before .before .is-other .ensures ∙ ap (isOther _ _) (c .before .before .before .before .before .lookup .ensures)) (not-false _ (c .before .before .before .if2 .left)) (last (c .is-other2 .ensures ∙ ap (isOther _ _) (c .before .lookup2 .ensures))))
+unfolding familyRulesIn
+returns-3 c = kept _ (c .before .before .before .before .before .before .before .before .has-root .ensures) (not-false _ (c .before .before .before .before .before .before .before .if1 .left)) (kept _ (c .before .before .before .before .is-other .ensures ∙ ap (isOther _ _) (c .before .before .before .before .before .lookup-in .ensures)) (not-false _ (c .before .before .before .if2 .left)) (last (c .is-other2 .ensures ∙ ap (isOther _ _) (c .before .lookup-in2 .ensures))))
 
 pub has-family-spec : {M : Type 1} → statement M
 has-family-spec =
@@ -45,11 +46,11 @@ has-family-spec =
     (tie.spec
     has-root-requires
     returns
-    slice-aggregate-lookup
-    lookup-requires
+    slice-aggregate-lookup-in
+    lookup-in-requires
     is-other-requires
     returns-2
-    slice-aggregate-lookup-2
-    lookup-requires-2
+    slice-aggregate-lookup-in-2
+    lookup-in-requires-2
     is-other-requires-2
     returns-3)

@@ -6,39 +6,39 @@ use borrow.Author.Needs.{needs}
 use Rattle.description.proofs.has_root.Statement.{statement}
 use Rattle.description.proofs.has_root.Tie as tie
 
-slice-aggregate-lookup : tie.Need-slice-aggregate-lookup
-slice-aggregate-lookup c = search needs
+slice-aggregate-lookup-in : tie.Need-slice-aggregate-lookup-in
+slice-aggregate-lookup-in c = search needs
 
-lookup-requires : tie.Need-lookup-requires
-lookup-requires c κs = search needs
+lookup-in-requires : tie.Need-lookup-in-requires
+lookup-in-requires c κs = search needs
 
 is-present-requires : tie.Need-is-present-requires
 is-present-requires c κs = search needs
 
 returns : tie.Need-returns
-returns c = needs-nothing _ _ (c .before .is-present .ensures ∙ ap isPresent (c .before .before .lookup .ensures)) (not-true _ (c .if1 .taken))
+returns c = needs-nothing _ _ (c .before .is-present .ensures ∙ ap isPresent (c .before .before .lookup-in .ensures)) (not-true _ (c .if1 .taken))
 
-slice-aggregate-lookup-2 : tie.Need-slice-aggregate-lookup-2
-slice-aggregate-lookup-2 c = search needs
+slice-aggregate-lookup-in-2 : tie.Need-slice-aggregate-lookup-in-2
+slice-aggregate-lookup-in-2 c = search needs
 
-lookup-requires-2 : tie.Need-lookup-requires-2
-lookup-requires-2 c κs = search needs
+lookup-in-requires-2 : tie.Need-lookup-in-requires-2
+lookup-in-requires-2 c κs = search needs
 
 is-present-requires-2 : tie.Need-is-present-requires-2
 is-present-requires-2 c κs = search needs
 
 returns-2 : tie.Need-returns-2
-returns-2 c = needs-root _ _ (c .before .before .before .before .is-present .ensures ∙ ap isPresent (c .before .before .before .before .before .lookup .ensures)) (not-false _ (c .before .before .before .if1 .left)) (c .is-present2 .ensures ∙ ap isPresent (c .before .lookup2 .ensures))
+returns-2 c = needs-root _ _ (c .before .before .before .before .is-present .ensures ∙ ap isPresent (c .before .before .before .before .before .lookup-in .ensures)) (not-false _ (c .before .before .before .if1 .left)) (c .is-present2 .ensures ∙ ap isPresent (c .before .lookup-in2 .ensures))
 
 pub has-root-spec : {M : Type 1} → statement M
 has-root-spec =
     tie.close
     (tie.spec
-    slice-aggregate-lookup
-    lookup-requires
+    slice-aggregate-lookup-in
+    lookup-in-requires
     is-present-requires
     returns
-    slice-aggregate-lookup-2
-    lookup-requires-2
+    slice-aggregate-lookup-in-2
+    lookup-in-requires-2
     is-present-requires-2
     returns-2)

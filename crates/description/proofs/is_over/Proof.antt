@@ -1,13 +1,13 @@
-use Rattle.properties.proofs.Insertion.{placed-yes, placed-no}
+use Rattle.fields.proofs.Rules.{or-yes, or-no}
 use mathlib.Core.Path.{refl}
 use Rattle.description.proofs.is_over.Statement.{statement}
 use Rattle.description.proofs.is_over.Tie as tie
 
 returns : tie.Need-returns
-returns c = placed-yes _ _ (c .if1 .taken)
+returns c = or-yes _ _ (c .if1 .taken)
 
 returns-2 : tie.Need-returns-2
-returns-2 c = placed-no _ _ _ (c .if1 .left) refl
+returns-2 c = or-no _ _ _ (c .if1 .left) refl
 
 pub is-over-spec : {M : Type 1} → statement M
 is-over-spec = tie.close (tie.spec returns returns-2)

@@ -16,8 +16,8 @@ returns c = id-no _ _ _ (c .before .before .text-at .ensures) (c .before .is-id 
 text-at-requires-2 : tie.Need-text-at-requires-2
 text-at-requires-2 c κs = search needs
 
-lookup-requires : tie.Need-lookup-requires
-lookup-requires c κs = search needs
+lookup-in-requires : tie.Need-lookup-in-requires
+lookup-in-requires c κs = search needs
 
 enum-told : tie.Need-enum-told
 enum-told c = search needs
@@ -29,13 +29,13 @@ enum-told-3 : tie.Need-enum-told-3
 enum-told-3 c = search needs
 
 returns-2 : tie.Need-returns-2
-returns-2 c = id-once _ _ _ (c .before .before .before .before .before .before .text-at .ensures) (c .before .before .before .before .before .is-id .ensures) (not-false _ (c .before .before .before .before .if1 .left)) (c .before .before .before .text-at2 .ensures) (c .before .before .lookup .ensures) (once-absent (c .enum-told .given .1))
+returns-2 c = id-once _ _ _ (c .before .before .before .before .before .before .text-at .ensures) (c .before .before .before .before .before .is-id .ensures) (not-false _ (c .before .before .before .before .if1 .left)) (c .before .before .before .text-at2 .ensures) (c .before .before .lookup-in .ensures) (once-absent (c .enum-told .given .1))
 
 returns-3 : tie.Need-returns-3
-returns-3 c = id-once _ _ _ (c .before .before .before .before .before .before .text-at .ensures) (c .before .before .before .before .before .is-id .ensures) (not-false _ (c .before .before .before .before .if1 .left)) (c .before .before .before .text-at2 .ensures) (c .before .before .lookup .ensures) (once-one (c .enum-told2 .given .1))
+returns-3 c = id-once _ _ _ (c .before .before .before .before .before .before .text-at .ensures) (c .before .before .before .before .before .is-id .ensures) (not-false _ (c .before .before .before .before .if1 .left)) (c .before .before .before .text-at2 .ensures) (c .before .before .lookup-in .ensures) (once-one (c .enum-told2 .given .1))
 
 returns-4 : tie.Need-returns-4
-returns-4 c = id-once _ _ _ (c .before .before .before .before .before .before .text-at .ensures) (c .before .before .before .before .before .is-id .ensures) (not-false _ (c .before .before .before .before .if1 .left)) (c .before .before .before .text-at2 .ensures) (c .before .before .lookup .ensures) (once-twice (c .enum-told3 .given .1))
+returns-4 c = id-once _ _ _ (c .before .before .before .before .before .before .text-at .ensures) (c .before .before .before .before .before .is-id .ensures) (not-false _ (c .before .before .before .before .if1 .left)) (c .before .before .before .text-at2 .ensures) (c .before .before .lookup-in .ensures) (once-twice (c .enum-told3 .given .1))
 
 pub is-id-once-spec : {M : Type 1} → statement M
 is-id-once-spec =
@@ -45,7 +45,7 @@ is-id-once-spec =
     is-id-requires
     returns
     text-at-requires-2
-    lookup-requires
+    lookup-in-requires
     enum-told
     enum-told-2
     enum-told-3

@@ -1,7 +1,7 @@
 use Prim.Native.Nat.{_-_}
 use native.Mathlib.Omega.{arith}
 use lib.ListN.{length}
-use Rattle.json.proofs.Strings.{Reading, string-not, string-inside, string-start, string-more, string-go, string-last, string-shut, string-stuck}
+use Rattle.json.proofs.Strings.{Reading, string-not, string-inside, string-start, string-run, string-more, string-go, string-last, string-shut, string-stuck}
 use borrow.Author.Needs.{needs}
 use Rattle.json.proofs.string.string.Statement.{statement}
 use Rattle.json.proofs.string.string.Tie as tie
@@ -18,11 +18,14 @@ peek-requires c κs = search needs
 returns : tie.Need-returns Inv-loop μ-loop
 returns c = string-not _ _ (c .before .peek .ensures) (c .if1 .taken)
 
-add-i : tie.Need-add-i Inv-loop μ-loop
-add-i c = let h = string-inside (c .before .before .before .args .s .now) _ (c .before .peek .ensures) (c .if1 .left) in omega arith
+add-plain-run : tie.Need-add-plain-run Inv-loop μ-loop
+add-plain-run c = let h = string-inside (c .before .before .before .args .s .now) _ (c .before .peek .ensures) (c .if1 .left) in omega arith
+
+plain-run-requires : tie.Need-plain-run-requires Inv-loop μ-loop
+plain-run-requires c κs = let h = string-inside (c .before .before .before .args .s .now) _ (c .before .peek .ensures) (c .if1 .left) in omega arith
 
 loop-holds : tie.Need-loop-holds Inv-loop μ-loop
-loop-holds c = string-start _ _ (c .before .peek .ensures) (c .if1 .left)
+loop-holds c = string-run (string-start _ _ (c .before .before .peek .ensures) (c .before .if1 .left)) (c .plain-run .ensures)
 
 peek-requires-2 : tie.Need-peek-requires-2 Inv-loop μ-loop
 peek-requires-2 c κs = search needs
@@ -33,8 +36,8 @@ text-step-requires c κs = search needs
 enum-known-u : tie.Need-enum-known-u Inv-loop μ-loop
 enum-known-u c = search needs
 
-add-i-2 : tie.Need-add-i-2 Inv-loop μ-loop
-add-i-2 c = let h = string-more (c .before .before .before .before .before .loop .inv) (c .before .before .before .before .peek2 .ensures) (c .before .before .before .text-step .ensures) (c .before .u .given .1) in omega arith
+add-i : tie.Need-add-i Inv-loop μ-loop
+add-i c = let h = string-more (c .before .before .before .before .before .loop .inv) (c .before .before .before .before .peek2 .ensures) (c .before .before .before .text-step .ensures) (c .before .u .given .1) in omega arith
 
 loop-less : tie.Need-loop-less Inv-loop μ-loop
 loop-less c = let h = string-more (c .before .before .before .before .before .loop .inv) (c .before .before .before .before .peek2 .ensures) (c .before .before .before .text-step .ensures) (c .before .u .given .1) in omega arith
@@ -45,8 +48,8 @@ loop-again c = string-go (c .before .before .before .before .before .loop .inv) 
 enum-told : tie.Need-enum-told Inv-loop μ-loop
 enum-told c = search needs
 
-add-t10 : tie.Need-add-t10 Inv-loop μ-loop
-add-t10 c = let h = string-last (c .before .before .before .before .loop .inv) (c .before .before .before .peek2 .ensures) (c .before .before .text-step .ensures) (c .enum-told .given .1) in omega arith
+add-t11 : tie.Need-add-t11 Inv-loop μ-loop
+add-t11 c = let h = string-last (c .before .before .before .before .loop .inv) (c .before .before .before .peek2 .ensures) (c .before .before .text-step .ensures) (c .enum-told .given .1) in omega arith
 
 returns-2 : tie.Need-returns-2 Inv-loop μ-loop
 returns-2 c = string-shut (c .before .before .before .before .loop .inv) (c .before .before .before .peek2 .ensures) (c .before .before .text-step .ensures) (c .enum-told .given .1)
@@ -65,16 +68,17 @@ string-spec =
     μ-loop
     peek-requires
     returns
-    add-i
+    add-plain-run
+    plain-run-requires
     loop-holds
     peek-requires-2
     text-step-requires
     enum-known-u
-    add-i-2
+    add-i
     loop-less
     loop-again
     enum-told
-    add-t10
+    add-t11
     returns-2
     enum-told-2
     returns-3)

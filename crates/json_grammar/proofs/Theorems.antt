@@ -1,4 +1,4 @@
--- What the reader's definition comes to, against the grammar of RFC 8259 (specs/Rfc8259.antt), over bytes. A JSON text is UTF-8 besides:
+-- What the definition of the reader (crate json) comes to, against the grammar of RFC 8259 (specs/Rfc8259.antt), over bytes. A JSON text is UTF-8 besides:
 -- that is judged apart, before (crate text, `isUtf8`), and no theorem here speaks of it.
 use Prim.Native.Nat.{ℕ, _≤_}
 use mathlib.Core.Path.{_≡_}
@@ -7,16 +7,16 @@ use mathlib.Core.Bool.{true}
 use mathlib.Core.List.{List}
 use lib.ListN.{length}
 use Rattle.abnf.proofs.Lead.{whole-lead, lead-whole}
 use Rattle.json.specs.Bytes.{byte}
 use Rattle.json.specs.Value.{valueAt, documentOf, isContainer}
 use Rattle.json.specs.Members.{membersAt, elementsAt}
-use Rattle.json.specs.Rfc8259 as G
-use Rattle.json.specs.Listing.{StandsWithin, IsMember, IsElement, Holds}
+use Rattle.json_grammar.specs.Rfc8259 as G
+use Rattle.json_grammar.specs.Listing.{StandsWithin, IsMember, IsElement, Holds}
 use Rattle.json.specs.declared.Scan.the-variants.{End}
-use Rattle.json.proofs.Sound.{sound}
-use Rattle.json.proofs.Complete.{complete}
-use Rattle.json.proofs.Listing.{value-within, raise, object-members, array-elements}
-use Rattle.json.proofs.Containers.{container-reads, container-read, ends}
+use Rattle.json_grammar.proofs.Sound.{sound}
+use Rattle.json_grammar.proofs.Complete.{complete}
+use Rattle.json_grammar.proofs.Listing.{value-within, raise, object-members, array-elements}
+use Rattle.json_grammar.proofs.Containers.{container-reads, container-read, ends}
 
 -- The reader takes exactly the byte strings of RFC 8259's grammar that are nested at most 16 deep.
 pub reads-json : (s : List ℕ) → (documentOf s ≡ End (length s)) ↔ G.JSON 16 s

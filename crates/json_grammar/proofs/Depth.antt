@@ -4,7 +4,7 @@ use mathlib.Core.Path.{_≡_, refl}
 use mathlib.Core.List.{List}
 use Rattle.abnf.specs.Abnf.{_·_, Abnf, _/_, ∗_, opt}
 use Rattle.abnf.proofs.Lead as L
-use Rattle.json.specs.Rfc8259 as G
+use Rattle.json_grammar.specs.Rfc8259 as G
 
 abbrev pub Json : Type 0
 Json = Abnf G.Name

@@ -4,8 +4,8 @@ use mathlib.Core.Path.{_≡_}
 use mathlib.Core.List.{List, [], _∷_, _++_}
 use lib.ListN.{drop}
 use Rattle.abnf.specs.Abnf.{_·_, Abnf, Words, x}
-use Rattle.json.specs.Rfc8259.{Name, rules, ws, value-separator, name-separator, string, value}
+use Rattle.json_grammar.specs.Rfc8259.{Name, rules, ws, value-separator, name-separator, string, value}
 use Rattle.json.specs.Members.{Member}
 
 -- a word of the rule, nested at most d deep, stands from i to j
 abbrev pub StandsWithin : ℕ → List ℕ → ℕ → Abnf Name → ℕ → Type 0

@@ -11,21 +11,21 @@ use lib.Seq.{drop-cons, drop-drop, drop-length}
 use lib.Dec.{eqb, leb}
 use borrow.Author.Tests.{eqb-true, eqb-false, leb-true}
 use Rattle.abnf.specs.Accepts.{inRange}
 use Rattle.json.specs.Bytes.{byte, run, past, isWs, ws, word, andThen}
 use Rattle.json.specs.Strings.{isHex, isEscape, plainStep, escapeStep, hexStep, textStep, text, stringAt}
 use Rattle.json.specs.Number.{isDigit, digitsEnd, optional, isMinus, isSign, someDigits, intAt, fracAt, isExp, expAt, numberAt}
 use Rattle.json.specs.Value.{Kind, bracket, brace, quote, trueWord, falseWord, nullWord, other, kindOf, after, series, listOf, arrayOf, colon, keyAt, memberOf, objectOf, valueOf, valueAt, atEnd, documentOf, opens}
 use Rattle.json.specs.declared.Scan.{Scan}
 use Rattle.json.specs.declared.Scan.the-variants.{End, Bad}
 use Rattle.json.specs.declared.string.State.{State}
 use Rattle.json.specs.declared.string.State.the-variants.{Plain, Escape, Hex4, Hex3, Hex2, Hex1}
 use Rattle.json.specs.declared.string.Move.{Move}
 use Rattle.json.specs.declared.string.Move.the-variants.{Go, Shut, Stuck}
 use Rattle.json.proofs.Bytes.{split, both, inside=}
 use Rattle.abnf.specs.Abnf.{_·_, _–_, _/_, ∗_, x, opt, some, lit}
-use Rattle.json.specs.Rfc8259 as G
+use Rattle.json_grammar.specs.Rfc8259 as G
 use Rattle.abnf.proofs.Lead.{Many, over, again, expand}
-use Rattle.json.proofs.Depth.{Json, Lead, array-of, member-of, object-of, value}
+use Rattle.json_grammar.proofs.Depth.{Json, Lead, array-of, member-of, object-of, value}
 
 -- bytes at the front of a list
 pub or-cases {ℓ} : {X : Type ℓ} (a b : Bool) → (a || b) ≡ true → (a ≡ true → X) → (b ≡ true → X) → X

@@ -9,21 +9,21 @@ use lib.Dec.{eqb}
 use borrow.Author.Tests.{eqb-true, eq-eqb}
 use Rattle.abnf.specs.Abnf.{_·_, x}
 use Rattle.abnf.proofs.Lead.{lead-word, expand}
 use Rattle.json.specs.Bytes.{byte, ws, andThen}
 use Rattle.json.specs.Strings.{stringAt}
 use Rattle.json.specs.Value.{Kind, bracket, brace, quote, trueWord, falseWord, nullWord, other, kindOf, series, listOf, arrayOf, keyAt, memberOf, objectOf, valueOf, valueAt}
 use Rattle.json.specs.Members.{Member, nextAt, itemAt, memberAt, elementAt, listFrom, membersAt, elementsAt}
-use Rattle.json.specs.Rfc8259 as G
-use Rattle.json.specs.Listing.{StandsWithin, Stands, IsMember, IsElement, Chain, last, more, Holds, none, some}
+use Rattle.json_grammar.specs.Rfc8259 as G
+use Rattle.json_grammar.specs.Listing.{StandsWithin, Stands, IsMember, IsElement, Chain, last, more, Holds, none, some}
 use Rattle.json.specs.declared.Scan.{Scan}
 use Rattle.json.specs.declared.Scan.the-variants.{End, Bad}
 use Rattle.json.specs.declared.Item.{Item}
 use Rattle.json.specs.declared.Item.the-variants.{At, Done}
 use Rattle.json.proofs.Bytes.{split, both}
 use Rattle.json.proofs.Values.{after-comma, after-close, after-bad, series-then, series-bad, list-none, list-some, member-at, member-bad}
-use Rattle.json.proofs.Depth as D
-use Rattle.json.proofs.Sound.{Sound, value-sound, key-sound, token, begins, closes, shuts}
-use Rattle.json.proofs.Complete.{value-not}
+use Rattle.json_grammar.proofs.Depth as D
+use Rattle.json_grammar.proofs.Sound.{Sound, value-sound, key-sound, token, begins, closes, shuts}
+use Rattle.json_grammar.proofs.Complete.{value-not}
 
 -- a scan is not both
 clash : {A : Type 0} {r : Scan} {e k : ℕ} → r ≡ Bad k → r ≡ End e → A

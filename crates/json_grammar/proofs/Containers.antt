@@ -8,14 +8,14 @@ use lib.ListN.{length}
 use lib.Dec.{eqb}
 use borrow.Author.Tests.{eqb-true}
 use Rattle.abnf.proofs.Lead.{whole-lead, lead-whole}
 use Rattle.json.specs.Bytes.{byte, ws, andThen}
 use Rattle.json.specs.Value.{valueAt, atEnd, documentOf, opens, isContainer}
-use Rattle.json.specs.Rfc8259 as G
+use Rattle.json_grammar.specs.Rfc8259 as G
 use Rattle.json.specs.declared.Scan.{Scan}
 use Rattle.json.specs.declared.Scan.the-variants.{End, Bad}
 use Rattle.json.proofs.Bytes.{both}
-use Rattle.json.proofs.Sound.{sound-container}
-use Rattle.json.proofs.Complete.{complete-container}
+use Rattle.json_grammar.proofs.Sound.{sound-container}
+use Rattle.json_grammar.proofs.Complete.{complete-container}
 
 -- the reader goes on to the end or fails
 pub ends : (s : List ℕ) (e : ℕ) → documentOf s ≡ End e → e ≡ length s

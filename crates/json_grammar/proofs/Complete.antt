@@ -12,24 +12,24 @@ use lib.Seq.{drop-cons, getD-drop}
 use lib.Dec.{eqb, leb}
 use borrow.Author.Tests.{eqb-true, eqb-false, eq-eqb, ne-eqb, le-leb}
 use Rattle.abnf.specs.Accepts.{inRange}
 use Rattle.json.specs.Bytes.{byte, run, past, isWs, ws, word, andThen}
 use Rattle.json.specs.Strings.{isHex, isEscape, plainStep, escapeStep, hexStep, textStep, text, stringAt}
 use Rattle.json.specs.Number.{isDigit, digitsEnd, optional, isMinus, isSign, someDigits, intAt, fracAt, isExp, expAt, numberAt}
 use Rattle.json.specs.Value.{Kind, bracket, brace, quote, trueWord, falseWord, nullWord, other, kindOf, after, series, listOf, arrayOf, colon, keyAt, memberOf, objectOf, valueOf, valueAt, atEnd, documentOf, opens}
 use Rattle.json.specs.declared.Scan.{Scan}
 use Rattle.json.specs.declared.Scan.the-variants.{End, Bad}
 use Rattle.json.specs.declared.string.State.{State}
 use Rattle.json.specs.declared.string.State.the-variants.{Plain, Escape, Hex4, Hex3, Hex2, Hex1}
 use Rattle.json.specs.declared.string.Move.the-variants.{Go}
 use Rattle.json.proofs.Bytes.{split, both, byte-out, run-more, run-stop, ws-stop}
 use Rattle.json.proofs.Strings.{text-go, text-shut, plain-plain, hex-go}
 use Rattle.json.proofs.Values.{after-comma, after-close, series-then, list-none, list-some, member-at}
 use Rattle.json.proofs.Numbers.{minus-yes, minus-no, sign-plus, sign-minus, sign-no, some-yes, some-no, int-zero, int-digits, frac-yes, frac-no, exp-upper, exp-lower, number-int, number-exp}
 use Rattle.abnf.specs.Abnf.{_·_, _/_, ∗_, x, opt, some, lit}
-use Rattle.json.specs.Rfc8259 as G
+use Rattle.json_grammar.specs.Rfc8259 as G
 use Rattle.abnf.proofs.Lead.{Many, over, again, expand}
-use Rattle.json.proofs.Depth.{Json, Lead, array-of, member-of, object-of, value}
-use Rattle.json.proofs.Sound.{escaped}
+use Rattle.json_grammar.proofs.Depth.{Json, Lead, array-of, member-of, object-of, value}
+use Rattle.json_grammar.proofs.Sound.{escaped}
 
 -- a byte at which a number is over
 record Stop (b : ℕ) : Type 0 where

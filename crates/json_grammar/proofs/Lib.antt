@@ -1,0 +1,6 @@
+pub mod Depth
+pub mod Sound
+pub mod Complete
+pub mod Containers
+pub mod Listing
+pub mod Theorems

@@ -1,0 +1,2 @@
+pub mod Rfc8259
+pub mod Listing
