@@ -2,9 +2,9 @@
 use Prim.Native.Nat.{ℕ, suc, _+_, _≤_, _<_}
 use native.Mathlib.Numerals.{add-one}
 use native.Mathlib.Omega.{arith}
-use mathlib.Core.Path.{_≡_, refl, ap, _∙_}
+use mathlib.Core.Path.{_≡_, refl, sym, ap, _∙_}
 use mathlib.Core.List.{List, [], _∷_}
-use mathlib.Core.Bool.{Bool, true, false}
+use mathlib.Core.Bool.{Bool, true, false, and-true, and-false}
 use lib.ListN.{length, drop, drop-of-length-le}
 use lib.Seq.{drop-cons}
 use Rattle.text.specs.Bytes.{eqBytes}
@@ -61,10 +61,10 @@ module _ (r : List ℕ) (test : table.Property → Bool) where
 
 -- the two IDs of a record
 module _ (r node id : List ℕ) (a n : ℕ) (e : a ≡ n) where
-  pub other-node : eqBytes (textAt r (a + nodeAt) idMost) node ≡ false → false ≡ isNamed node id (recordOf r n)
+  pub other-id : eqBytes (textAt r (a + propertyAt) idMost) id ≡ false → false ≡ isNamed node id (recordOf r n)
   unfolding isNamed recordOf declaredAt
-  other-node h = rw (← e, h)
+  other-id h = rw (← e, h) (sym (and-false (eqBytes (textAt r (a + nodeAt) idMost) node)))
 
-  pub same-node : {b : Bool} → eqBytes (textAt r (a + nodeAt) idMost) node ≡ true → b ≡ eqBytes (textAt r (a + propertyAt) idMost) id → b ≡ isNamed node id (recordOf r n)
+  pub same-id : {b : Bool} → eqBytes (textAt r (a + propertyAt) idMost) id ≡ true → b ≡ eqBytes (textAt r (a + nodeAt) idMost) node → b ≡ isNamed node id (recordOf r n)
   unfolding isNamed recordOf declaredAt
-  same-node h k = rw (← e, h) k
+  same-id h k = rw (← e, h) (k ∙ sym (and-true (eqBytes (textAt r (a + nodeAt) idMost) node)))

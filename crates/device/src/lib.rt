@@ -106,22 +106,45 @@ fn is_set(room: &[u8], at: usize) -> bool
     memory::byte(room, at) != 0
 }
 
-// The number in eight bytes, the lowest first.
-fn number_at(room: &[u8], at: usize) -> u64
-    requires { ⌜ at < 2 ^ 20 ⌝ }
-    ensures { λ r. ⌜ r ≡ u64 (now (room .entry)) at ⌝ }
+// The number in the first eight bytes, the lowest first.
+fn eight(s: &[u8]) -> u64
+    requires { ⌜ 8 ≤ length (now s) ⌝ }
+    ensures { λ r. ⌜ r ≡ u64 (now (s .entry)) 0 ⌝ }
+{
+    let low = s[0] as u64 + 256 * (s[1] as u64 + 256 * (s[2] as u64 + 256 * s[3] as u64));
+    let high = s[4] as u64 + 256 * (s[5] as u64 + 256 * (s[6] as u64 + 256 * s[7] as u64));
+    low + 4294967296 * high
+}
+
+// The same of bytes that may be fewer.
+fn up_to_eight(s: &[u8]) -> u64
+    ensures { λ r. ⌜ r ≡ u64 (now (s .entry)) 0 ⌝ }
 {
     let mut v: u64 = 0;
     let mut j: usize = 8;
     while j > 0 {
         j -= 1;
-        v = v * 256 + memory::byte(room, at + j) as u64;
+        v = v * 256 + memory::byte(s, j) as u64;
     }
     v
 }
 
-// The byte string whose length byte is at a place.
-fn text_at(room: &[u8], at: usize, most: usize) -> Place
+// The number in the eight bytes from a place on, the lowest first.
+pub fn number_at(bytes: &[u8], at: usize) -> u64
+    ensures { λ r. ⌜ r ≡ u64 (now (bytes .entry)) at ⌝ }
+{
+    if at < bytes.len() {
+        let s = &bytes[at..];
+        if s.len() < 8 {
+            return up_to_eight(s);
+        }
+        return eight(s);
+    }
+    0
+}
+
+// The byte string whose length byte is at a place, cut by the room's end.
+fn clipped_text(room: &[u8], at: usize, most: usize) -> Place
     requires { ⌜ (at < 2 ^ 20) × (most ≤ 64) ⌝ }
     ensures { λ r. ⌜ TextIn (now (room .entry)) (textAt (now (room .entry)) at most) r ⌝ }
 {
@@ -131,6 +154,21 @@ fn text_at(room: &[u8], at: usize, most: usize) -> Place
     Place {
         start: start,
         end: end,
+    }
+}
+
+// The byte string whose length byte is at a place.
+fn text_at(room: &[u8], at: usize, most: usize) -> Place
+    requires { ⌜ (at < 2 ^ 20) × (most ≤ 64) ⌝ }
+    ensures { λ r. ⌜ TextIn (now (room .entry)) (textAt (now (room .entry)) at most) r ⌝ }
+{
+    if room.len() <= at + most {
+        return clipped_text(room, at, most);
+    }
+    let n = least(room[at] as usize, most);
+    Place {
+        start: at + 1,
+        end: at + 1 + n,
     }
 }
 
@@ -295,15 +333,15 @@ fn id_is(room: &[u8], at: usize, id: &[u8]) -> bool
     text::same(&room[start..end], id)
 }
 
-// Whether the property of number i has these two IDs.
+// Whether the property of number i has these two IDs; of many with one node the second tells sooner.
 fn is_named(room: &[u8], i: u8, node: &[u8], id: &[u8]) -> bool
     ensures { λ r. ⌜ r ≡ isNamed (now (node .entry)) (now (id .entry)) (recordOf (now (room .entry)) (recordAt i)) ⌝ }
 {
     let a = record_at(i);
-    if !id_is(room, a + NODE, node) {
+    if !id_is(room, a + PROPERTY, id) {
         return false;
     }
-    id_is(room, a + PROPERTY, id)
+    id_is(room, a + NODE, node)
 }
 
 // The number of the first property with these two IDs; where there is none, the number of properties.

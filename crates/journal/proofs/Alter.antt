@@ -15,7 +15,7 @@ use Rattle.memory.proofs.Lists.{map-move, map-set}
 use Rattle.memory.proofs.Flat.{Same, part-kept, part-is, length-part, getD-part, put-is}
 use Rattle.journal.proofs.Order.{once, orderly-same, orderly-moved}
 use Rattle.memory.proofs.Read.{length-order, order-is, length-room, room-is}
-use Rattle.journal.proofs.Decode.{fits-kept, entries-kept}
+use Rattle.journal.proofs.Decode.{entries-kept}
 
 module _ (m m₁ m₂ : List ℕ) (c : Change) (at : ℕ) (able : AbleTo m c) (ea : at ≡ roomAt (slot m (c .from)) + c .offset)
     (w : Over m (λ i. getD (c .bytes) i 0) at (length (c .bytes)) m₁) (v : Settled m₁ (c .head) (capacity m) (c .from) (c .to) m₂) where
@@ -106,7 +106,6 @@ module _ (m m₁ m₂ : List ℕ) (c : Change) (at : ℕ) (able : AbleTo m c) (e
       orderly = orderly-same (length (order m)) (capacity m₂) (λ i. getD (move 0 (c .from) (c .to) (order m)) i 0) (slot m₂) (d ∙ sym (length-order m h))
           (orderly-moved (order m) (c .from) (c .to) a-inside b-inside (orderly-same (capacity m) (length (order m)) (slot m) (λ i. getD (order m) i 0) (length-order m h) (s .orderly) (order-is m h)))
           (λ i l. slots-moved i (omega (arith, length-order m h)));
-      fits = λ p l. fits-kept m m₂ h kept d p (λ i x y. ring i (omega arith) (omega (arith, j, h))) (s .fits p (omega (arith, j)));
     }
 
     -- the room, and the others

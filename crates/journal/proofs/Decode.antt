@@ -3,10 +3,10 @@ use Prim.Native.Nat.{ℕ, suc, _+_, _-_, _*_, _<_, min}
 use native.Mathlib.Omega.{arith}
 use mathlib.Core.Path.{_≡_, sym, ap, ap₂, _∙_}
 use mathlib.Core.List.{List, _∷_, map}
-use lib.ListN.{length, getD, take}
+use lib.ListN.{length, getD, set, take}
 use Rattle.memory.specs.Bytes.{tab, part}
-use Rattle.memory.specs.Layout.{roomSize, roomAt, imageAt, entryAt, headAt, headSize, orderAt, capacity, depth, next, steps, size, slot, fromOf, offsetOf, lengthOf, headOf}
-use Rattle.memory.specs.Sound.{Header, FitsAt, Sound}
+use Rattle.memory.specs.Layout.{roomSize, roomAt, imageAt, entryAt, headAt, headSize, orderAt, capacity, depth, next, steps, size, slot, two, offsetOf, lengthOf, headOf}
+use Rattle.memory.specs.Sound.{Header, Sound}
 use Rattle.memory.specs.State.{Change, order, room, current, entry, entries, place}
 use Rattle.journal.specs.Parts.{turn}
 use Rattle.memory.proofs.Lists.{map-same, tab-ext, tab-cons, tab-pushed}
@@ -16,31 +16,26 @@ use Rattle.journal.proofs.Places.{place-below, place-here, place-next, 
 
 -- an entry that is where it was
 module _ (m m′ : List ℕ) (h : Header m) (len : length m′ ≡ length m) (d : capacity m′ ≡ capacity m) where
-  pub fits-kept : (p : ℕ) → Same m m′ (entryAt p) (entryAt p + 9) → FitsAt m p → FitsAt m′ p
-  fits-kept p s f =
-      let x : ℕ → Type 0 = λ i. getD m′ (entryAt p + i) 0 ≡ getD m (entryAt p + i) 0 in
-      let b : (i : ℕ) → i < 9 → getD m′ (entryAt p + i) 0 ≡ getD m (entryAt p + i) 0 = λ i l. s (entryAt p + i) (omega arith) (omega arith) in
-      let b₀ : fromOf m′ p ≡ fromOf m p = s (entryAt p) (omega arith) (omega arith) in
-      let o₁ : getD m′ (entryAt p + 2 + 1) 0 ≡ getD m (entryAt p + 2 + 1) 0 = s (entryAt p + 2 + 1) (omega arith) (omega arith) in
-      let l₁ : getD m′ (entryAt p + 4 + 1) 0 ≡ getD m (entryAt p + 4 + 1) 0 = s (entryAt p + 4 + 1) (omega arith) (omega arith) in
-      omega (arith, f, d, b 1 (omega arith), b 2 (omega arith), b 4 (omega arith), b 8 (omega arith))
-
-  pub entry-kept : (p p′ : ℕ) → p < depth m → FitsAt m p → p′ ≡ p → Same m m′ (entryAt p) (entryAt p + 32) → Same m m′ (imageAt (capacity m) p) (imageAt (capacity m) p + roomSize) → entry m′ p′ ≡ entry m p
+  pub entry-kept : (p p′ : ℕ) → p < depth m → p′ ≡ p → Same m m′ (entryAt p) (entryAt p + 32) → Same m m′ (imageAt (capacity m) p) (imageAt (capacity m) p + roomSize) → entry m′ p′ ≡ entry m p
   unfolding entry
-  entry-kept p p′ q f e s t =
+  entry-kept p p′ q e s t =
       ap (entry m′) e ∙ (λ i. record {
-        from = s (entryAt p) (omega arith) (omega arith) i;
-        to = s (entryAt p + 1) (omega arith) (omega arith) i;
+        from = ap₂ (λ (x y : ℕ). min x (y - 1)) (s (entryAt p) (omega arith) (omega arith)) d i;
+        to = ap₂ (λ (x y : ℕ). min x (y - 1)) (s (entryAt p + 1) (omega arith) (omega arith)) d i;
         offset = off i;
-        bytes = (ap₂ (λ (x y : ℕ). part m′ (imageAt x p) y) d long ∙ part-kept m m′ (imageAt (capacity m) p) (lengthOf m p) len (omega (arith, h, f)) (λ k x y. t k x (omega (arith, f)))) i;
-        head = part-kept m m′ (headOf p) headSize len (omega (arith, h)) (λ k x y. s k (omega arith) (omega arith)) i;
+        bytes = (ap₂ (λ (x y : ℕ). part m′ (imageAt x p) y) d long ∙ part-kept m m′ (imageAt (capacity m) p) (lengthOf m p) len (omega (arith, h)) (λ k x y. t k x (omega arith))) i;
+        head = ap₂ (λ (x : List ℕ) (y : ℕ). set x 0 y) (part-kept m m′ (headOf p) headSize len (omega (arith, h)) (λ k x y. s k (omega arith) (omega arith)))
+            (ap₂ min (s (headOf p) (omega arith) (omega arith)) d) i;
       })
     where
       off : offsetOf m′ p ≡ offsetOf m p
-      off = ap₂ (λ (x y : ℕ). x + 256 * y) (s (entryAt p + 2) (omega arith) (omega arith)) (s (entryAt p + 2 + 1) (omega arith) (omega arith))
+      off = ap₂ (λ (x y : ℕ). min (x + 256 * y) roomSize) (s (entryAt p + 2) (omega arith) (omega arith)) (s (entryAt p + 2 + 1) (omega arith) (omega arith))
+
+      raw : two m′ (entryAt p + 4) ≡ two m (entryAt p + 4)
+      raw = ap₂ (λ (x y : ℕ). x + 256 * y) (s (entryAt p + 4) (omega arith) (omega arith)) (s (entryAt p + 4 + 1) (omega arith) (omega arith))
 
       long : lengthOf m′ p ≡ lengthOf m p
-      long = ap₂ (λ (x y : ℕ). x + 256 * y) (s (entryAt p + 4) (omega arith) (omega arith)) (s (entryAt p + 4 + 1) (omega arith) (omega arith))
+      long = ap₂ (λ (x y : ℕ). min x (roomSize - y)) raw off
 
   -- the state, where its bytes are as they were
   pub current-kept : Same m m′ headAt (orderAt + capacity m) → Same m m′ roomSize (roomAt (capacity m)) → ((i : ℕ) → i < capacity m → slot m i < capacity m) → current m′ ≡ current m
@@ -75,7 +70,7 @@ module _ (m m′ : List ℕ) (len : length m′ ≡ length m) (d : capacity m′
 
   kept-at : (p p′ : ℕ) → p < depth m → p′ ≡ p → Kept p → entry m′ p′ ≡ entry m p
   unfolding Kept H
-  kept-at p p′ q e k = entry-kept m m′ H len d p p′ q (ok .fits p q) e (k .0) (k .1)
+  kept-at p p′ q e k = entry-kept m m′ H len d p p′ q e (k .0) (k .1)
 
   pub entries-kept : next m′ ≡ next m → steps m′ ≡ steps m → Same m m′ 128 roomSize → Same m m′ (roomAt (capacity m)) (size m) → entries m′ ≡ entries m
   unfolding entries G G′ H Kept

@@ -8,8 +8,8 @@ use lib.ListN.{length, getD, set, replicate, length-set, getD-replicate}
 use lib.Dec.{leb}
 use borrow.Author.Tests.{leb-true}
 use Rattle.memory.specs.Bytes.{part}
-use Rattle.memory.specs.Layout.{roomSize, most, domainAt, domainLength, headAt, headSize, orderAt, entryAt, imageAt, capacity, depth}
-use Rattle.memory.specs.Sound.{Header, FitsAt, Sound}
+use Rattle.memory.specs.Layout.{roomSize, most, domainAt, domainLength, headAt, headSize, orderAt, imageAt, capacity, depth}
+use Rattle.memory.specs.Sound.{Header, Sound}
 use Rattle.memory.specs.State.{state, current}
 use Rattle.journal.specs.Contract.{opens, fresh, Opened}
 use Rattle.journal.specs.Parts.{Over, Opens, Marked, Laid}
@@ -108,14 +108,6 @@ module _ (m domain m′ : List ℕ) (d j : ℕ) (o : Opens (length domain) d j (
   header : Header m′
   header = omega (arith, o, l .kept, l .marked, l .capacity-is, l .depth-is, l .length-is, l .ring 3 (omega arith) (omega arith), l .ring 4 (omega arith) (omega arith), count-is)
 
-  fits : (p : ℕ) → p < most → FitsAt m′ p
-  fits p h =
-      let z : (i : ℕ) → i < 9 → getD m′ (entryAt p + i) 0 ≡ 0 = λ i q. l .zero (entryAt p + i) (omega arith) (omega arith) in
-      let z₀ : getD m′ (entryAt p) 0 ≡ 0 = l .zero (entryAt p) (omega arith) (omega arith) in
-      let z₃ : getD m′ (entryAt p + 2 + 1) 0 ≡ 0 = l .zero (entryAt p + 2 + 1) (omega arith) (omega arith) in
-      let z₅ : getD m′ (entryAt p + 4 + 1) 0 ≡ 0 = l .zero (entryAt p + 4 + 1) (omega arith) (omega arith) in
-      omega (arith, o, l .capacity-is, z 1 (omega arith), z 2 (omega arith), z 4 (omega arith), z 8 (omega arith))
-
   sound : Sound m′
   unfolding header
   sound = record {
@@ -124,7 +116,6 @@ module _ (m domain m′ : List ℕ) (d j : ℕ) (o : Opens (length domain) d j (
       slots = λ i h. omega (arith, o, l .capacity-is, l .order i (omega (arith, o, l .capacity-is)));
       apart = λ i k q h e. omega (arith, l .order i (omega (arith, o, l .capacity-is)), l .order k (omega (arith, o, l .capacity-is)));
     };
-    fits = λ p h. fits p (omega (arith, o, l .depth-is));
   }
 
   domain-is : part m′ domainAt (domainLength m′) ≡ domain

@@ -1,35 +1,42 @@
 -- The last entry undone: it is taken off the ring, and the change that it tells of is made.
-use Prim.Native.Nat.{ℕ, _+_, _-_, _≤_, _<_}
+use Prim.Native.Nat.{ℕ, _+_, _-_, _≤_, _<_, min}
 use native.Mathlib.Omega.{arith}
 use mathlib.Core.Path.{_≡_, refl, sym, ap, ap₂, _∙_, subst}
 use mathlib.Core.List.{List, _∷_}
 use lib.ListN.{length, getD, set, length-set}
 use Rattle.memory.specs.Bytes.{part}
 use Rattle.memory.specs.Layout.{roomSize, roomAt, imageAt, entryAt, headSize, headOf, orderAt, domainAt, domainLength, capacity, depth, next, steps, size, slot, two, fromOf, toOf, offsetOf, lengthOf, countOf}
-use Rattle.memory.specs.Sound.{Header, FitsAt, Sound, Able}
+use Rattle.memory.specs.Sound.{Header, Sound, Able}
 use Rattle.memory.specs.State.{Change, change, current, entry, entries, place}
 use Rattle.journal.specs.Contract.{AbleTo}
 use Rattle.journal.specs.Parts.{Over, Settled, Stays, Changed, Restored, Ready}
 use Rattle.memory.proofs.Flat.{Same, set-same, set-other, part-kept, length-part, getD-part}
+use Rattle.memory.proofs.Read.{fitting}
 use Rattle.journal.proofs.Order.{orderly-same}
 use Rattle.journal.proofs.Places.{place-below}
-use Rattle.journal.proofs.Decode.{fits-kept, entry-kept, current-kept, entries-popped}
+use Rattle.journal.proofs.Decode.{entry-kept, current-kept, entries-popped}
 use Rattle.journal.proofs.Alter.{changed}
 use Rattle.journal.proofs.Save.{stays-twice}
 
--- an entry at a
-pub record Raw (m : List ℕ) (a : ℕ) : Type 0 where
-  pub starts : getD m a 0 < capacity m
-  pub ends : getD m (a + 1) 0 < capacity m
-  pub inside : two m (a + 2) + two m (a + 4) ≤ roomSize
-  pub there : slot m (getD m a 0) < capacity m
+-- what is read of the entry at a
+pub record Raw (m : List ℕ) (from to offset len : ℕ) : Type 0 where
+  pub starts : from < capacity m
+  pub ends : to < capacity m
+  pub inside : offset + len ≤ roomSize
+  pub there : slot m from < capacity m
 
-pub raw : (m : List ℕ) (p a : ℕ) → a ≡ entryAt p → Ready m p → Raw m a
-raw m p a e r = subst (Raw m) (sym e) (record { starts = r .fits .starts; ends = r .fits .ends; inside = r .fits .inside; there = r .there })
+pub raw : (m : List ℕ) (p a from to offset len : ℕ) → a ≡ entryAt p → Header m → Ready m p → from ≡ min (getD m a 0) (capacity m - 1) → to ≡ min (getD m (a + 1) 0) (capacity m - 1)
+    → offset ≡ min (two m (a + 2)) roomSize → len ≡ min (two m (a + 4)) (roomSize - offset) → Raw m from to offset len
+raw m p a from to offset len e h r ef et eo el = record {
+  starts = omega (arith, h);
+  ends = omega (arith, h);
+  inside = omega arith;
+  there = subst (λ (x : ℕ). slot m x < capacity m) (sym (ef ∙ ap (λ (x : ℕ). min (getD m x 0) (capacity m - 1)) e)) (r .there);
+}
 
 module _ (m : List ℕ) (p : ℕ) (h : Header m) (q : p < depth m) (r : Ready m p) where
   image-inside : imageAt (capacity m) p + lengthOf m p ≤ length m
-  image-inside = omega (arith, h, r .fits)
+  image-inside = omega (arith, h)
 
   length-bytes : length (entry m p .bytes) ≡ lengthOf m p
   unfolding entry
@@ -37,30 +44,31 @@ module _ (m : List ℕ) (p : ℕ) (h : Header m) (q : p < depth m) (r : Ready m 
 
   count-head : getD (entry m p .head) 0 0 ≡ countOf m p
   unfolding entry
-  count-head = getD-part m (headOf p) headSize 0 (omega arith) ∙ ap (λ (x : ℕ). getD m x 0) (omega arith)
+  count-head = set-same (part m (headOf p) headSize) 0 (countOf m p) (omega (arith, length-part m (headOf p) headSize (omega (arith, h))))
 
   able : AbleTo m (entry m p)
   unfolding entry
-  able = record { header = h; fits = omega (arith, r .fits, length-bytes, count-head); there = r .there }
+  able = record { header = h; fits = omega (arith, fitting m h p, length-bytes, count-head); there = r .there }
 
   -- the old bytes are copied back, then the head and the order
-  module _ (m₁ m₂ head : List ℕ) (a at image len offset from to : ℕ) (e : a ≡ entryAt p) (rf : from ≡ getD m a 0) (rt : to ≡ getD m (a + 1) 0) (ro : offset ≡ two m (a + 2)) (rl : len ≡ two m (a + 4))
-      (rh : head ≡ part m (a + 8) headSize) (ei : image ≡ imageAt (capacity m) p) (ea : at ≡ roomAt (slot m from) + offset)
+  module _ (m₁ m₂ head : List ℕ) (a at image len offset from to : ℕ) (e : a ≡ entryAt p) (rf : from ≡ min (getD m a 0) (capacity m - 1)) (rt : to ≡ min (getD m (a + 1) 0) (capacity m - 1))
+      (ro : offset ≡ min (two m (a + 2)) roomSize) (rl : len ≡ min (two m (a + 4)) (roomSize - offset))
+      (rh : head ≡ set (part m (a + 8) headSize) 0 (min (getD m (a + 8) 0) (capacity m))) (ei : image ≡ imageAt (capacity m) p) (ea : at ≡ roomAt (slot m from) + offset)
       (c : Over m (λ i. getD m (image + i) 0) at len m₁) (v : Settled m₁ head (capacity m₁) from to m₂) where
     ef : from ≡ fromOf m p
-    ef = rf ∙ ap (λ (x : ℕ). getD m x 0) e
+    ef = rf ∙ ap (λ (x : ℕ). min (getD m x 0) (capacity m - 1)) e
 
     et : to ≡ toOf m p
-    et = rt ∙ ap (λ (x : ℕ). getD m (x + 1) 0) e
+    et = rt ∙ ap (λ (x : ℕ). min (getD m (x + 1) 0) (capacity m - 1)) e
 
     eo : offset ≡ offsetOf m p
-    eo = ro ∙ ap (λ (x : ℕ). two m (x + 2)) e
+    eo = ro ∙ ap (λ (x : ℕ). min (two m (x + 2)) roomSize) e
 
     el : len ≡ lengthOf m p
-    el = rl ∙ ap (λ (x : ℕ). two m (x + 4)) e
+    el = rl ∙ ap₂ (λ (x y : ℕ). min (two m (x + 4)) (roomSize - y)) e eo
 
-    eh : head ≡ part m (headOf p) headSize
-    eh = rh ∙ ap (λ (x : ℕ). part m (x + 8) headSize) e
+    eh : head ≡ set (part m (headOf p) headSize) 0 (countOf m p)
+    eh = rh ∙ ap (λ (x : ℕ). set (part m (x + 8) headSize) 0 (min (getD m (x + 8) 0) (capacity m))) e
 
     d₁ : capacity m₁ ≡ capacity m
     d₁ = c .below 1 (omega arith)
@@ -94,10 +102,10 @@ module _ (m : List ℕ) (p : ℕ) (h : Header m) (q : p < depth m) (r : Ready m 
     replayed = changed m m₁ m₂ (entry m p) at able at-is bytes settled
 
 pub ready-able : (m : List ℕ) (p : ℕ) → Able m (fromOf m p) (toOf m p) (countOf m p) (offsetOf m p) (lengthOf m p) → Ready m p
-ready-able m p a = record { fits = a .fits; there = a .there }
+ready-able m p a = record { there = a .there }
 
 pub able-ready : (m : List ℕ) (p : ℕ) → Header m → Ready m p → Able m (fromOf m p) (toOf m p) (countOf m p) (offsetOf m p) (lengthOf m p)
-able-ready m p h r = record { header = h; fits = r .fits; there = r .there }
+able-ready m p h r = record { header = h; fits = fitting m h p; there = r .there }
 
 -- the last entry is off the ring
 module _ (m : List ℕ) (p n : ℕ) (h : Header m) (z : 0 < steps m) (ep : p ≡ place (next m) (depth m) 0) (en : n ≡ steps m - 1) where
@@ -138,13 +146,9 @@ module _ (m : List ℕ) (p n : ℕ) (h : Header m) (z : 0 < steps m) (ep : p ≡
     beyond = λ i l. else i (λ q. omega arith) (λ q. omega arith);
   }
 
-  p-fits : (k : ℕ) → FitsAt m k → FitsAt P k
-  p-fits k f = fits-kept m P h kept d k (from5 (entryAt k) (entryAt k + 9) (omega arith)) f
-
   pub p-ready : Ready m p → Ready P p
   p-ready r = record {
-    fits = p-fits p (r .fits);
-    there = (let e : fromOf P p ≡ fromOf m p = from5 (entryAt p) (entryAt p + 1) (omega arith) (entryAt p) (omega arith) (omega arith) in
+    there = (let e : fromOf P p ≡ fromOf m p = ap₂ (λ (x y : ℕ). min x (y - 1)) (from5 (entryAt p) (entryAt p + 1) (omega arith) (entryAt p) (omega arith) (omega arith)) d in
         let f : slot P (fromOf P p) ≡ slot m (fromOf m p) = ap (λ (x : ℕ). slot P x) e ∙ else (orderAt + fromOf m p) (λ q. omega arith) (λ q. omega arith) in
         omega (arith, r .there, f, d));
   }
@@ -154,31 +158,30 @@ module _ (m : List ℕ) (p n : ℕ) (h : Header m) (z : 0 < steps m) (ep : p ≡
   p-sound s = record {
     header = p-stays .header;
     orderly = orderly-same (capacity m) (capacity P) (slot m) (slot P) d (s .orderly) (λ i l. else (orderAt + i) (λ q. omega arith) (λ q. omega arith));
-    fits = λ k l. p-fits k (s .fits k (omega (arith, j)));
   }
 
   p-same : Sound m → current P ≡ current m
   p-same s = current-kept m P h kept d (from5 40 (orderAt + capacity m) (omega arith)) (from5 roomSize (roomAt (capacity m)) (omega arith)) (s .orderly .slots)
 
-  p-entry : Ready m p → entry P p ≡ entry m p
-  p-entry r = entry-kept m P h kept d p p p-below (r .fits) refl (from5 (entryAt p) (entryAt p + 32) (omega arith)) (from5 (imageAt (capacity m) p) (imageAt (capacity m) p + roomSize) (omega arith))
+  p-entry : entry P p ≡ entry m p
+  p-entry = entry-kept m P h kept d p p p-below refl (from5 (entryAt p) (entryAt p + 32) (omega arith)) (from5 (imageAt (capacity m) p) (imageAt (capacity m) p + roomSize) (omega arith))
 
   p-offer : Sound m → entries m ≡ entry m p ∷ entries P
   p-offer s = entries-popped m P kept d j s z (next-is ∙ ep) (steps-is ∙ en) (from5 128 roomSize (omega arith)) (from5 (roomAt (capacity m)) (size m) (omega arith)) ∙ ap (λ (x : ℕ). entry m x ∷ entries P) (sym ep)
 
-  pub restored : (m₂ : List ℕ) → Ready m p → Changed P (entry P p) m₂ → Restored m m₂
-  restored m₂ r c = record {
+  restored : (m₂ : List ℕ) → Changed P (entry P p) m₂ → Restored m m₂
+  restored m₂ c = record {
     entry = entry m p;
     stays = stays-twice m P m₂ p-stays (c .stays);
     sound = λ s. c .sound (p-sound s);
-    moved = λ s. c .moved (p-sound s) ∙ ap₂ change (p-entry r) (p-same s);
+    moved = λ s. c .moved (p-sound s) ∙ ap₂ change p-entry (p-same s);
     offer = λ s. p-offer s ∙ ap (λ (es : List Change). entry m p ∷ es) (sym (c .offer (p-sound s)));
   }
 
   -- the same of memory that equals it
-  module _ (m₁ : List ℕ) (e : m₁ ≡ P) (r : Ready m p) where
-    pub popped : (p < depth m₁) × Header m₁ × Ready m₁ p
-    popped = subst (λ (x : List ℕ). (p < depth x) × Header x × Ready x p) (sym e) (omega (arith, p-below, j), p-stays .header, p-ready r)
+  module _ (m₁ : List ℕ) (e : m₁ ≡ P) where
+    pub popped : Ready m p → (p < depth m₁) × Header m₁ × Ready m₁ p
+    popped r = subst (λ (x : List ℕ). (p < depth x) × Header x × Ready x p) (sym e) (omega (arith, p-below, j), p-stays .header, p-ready r)
 
     pub undone-to : (m₂ : List ℕ) → Changed m₁ (entry m₁ p) m₂ → Restored m m₂
-    undone-to m₂ c = restored m₂ r (subst (λ (x : List ℕ). Changed x (entry x p) m₂) e c)
+    undone-to m₂ c = restored m₂ (subst (λ (x : List ℕ). Changed x (entry x p) m₂) e c)

@@ -2,19 +2,19 @@
 use Prim.Native.Nat.{ℕ, suc, _+_, _*_, _≤_, _<_, min}
 use native.Mathlib.Omega.{arith}
 use native.Mathlib.Decide.{decLt}
-use mathlib.Core.Path.{_≡_, refl, sym, ap, ap₂, _∙_, subst}
+use mathlib.Core.Path.{_≡_, refl, sym, ap, ap₂, _∙_}
 use mathlib.Core.List.{List, _∷_}
 use lib.ListN.{length, getD, set, take, length-set}
+use lib.Seq.{set-getD}
 use Rattle.memory.specs.Bytes.{part, tab}
-use Rattle.memory.specs.Layout.{roomSize, roomAt, imageAt, entryAt, headAt, headSize, headOf, orderAt, domainAt, domainLength, capacity, depth, next, steps, slot, offsetOf, lengthOf, countOf}
-use Rattle.memory.specs.Sound.{Header, FitsAt, Sound, Able}
+use Rattle.memory.specs.Layout.{roomSize, roomAt, imageAt, entryAt, headAt, headSize, headOf, orderAt, domainAt, domainLength, capacity, depth, next, steps, slot, fromOf, toOf, offsetOf, lengthOf, countOf}
+use Rattle.memory.specs.Sound.{Header, Sound, Able}
 use Rattle.memory.specs.State.{Change, entry, entries, place}
 use Rattle.journal.specs.Parts.{Over, Noted, Stays, Saved, turn, saving}
-use Rattle.memory.proofs.Lists.{same?}
-use Rattle.memory.proofs.Flat.{Same, set-same, set-other, part-kept, part-same}
+use Rattle.memory.proofs.Flat.{Same, set-same, set-other, part-kept, part-same, getD-part}
 use Rattle.journal.proofs.Order.{orderly-same}
 use Rattle.journal.proofs.Places.{turn-below}
-use Rattle.journal.proofs.Decode.{fits-kept, current-kept, entries-pushed}
+use Rattle.journal.proofs.Decode.{current-kept, entries-pushed}
 
 pub stays-same : (m : List ℕ) → Header m → Stays m m
 stays-same m h = record { header = h; d = refl; j = refl; domain = refl; kept = refl; beyond = λ i l. refl }
@@ -105,27 +105,38 @@ module _ (m m₁ m₂ : List ℕ) (from to offset len at image e h n : ℕ) (abl
   entry-byte : (i : ℕ) → i < 32 → getD P (entryAt (next m) + i) 0 ≡ getD m₂ (e + i) 0
   entry-byte i x = ring (entryAt (next m) + i) (λ q. omega arith) (λ q. omega arith) ∙ ap (λ (y : ℕ). getD m₂ (y + i) 0) (sym ee)
 
-  from-is : getD P (entryAt (next m)) 0 ≡ to
-  from-is = ap (λ (x : ℕ). getD P x 0) (omega arith) ∙ entry-byte 0 (omega arith) ∙ ap (λ (x : ℕ). getD m₂ x 0) (omega arith) ∙ w .starts
+  first-byte : getD P (entryAt (next m)) 0 ≡ to
+  first-byte = ap (λ (x : ℕ). getD P x 0) (omega arith) ∙ entry-byte 0 (omega arith) ∙ ap (λ (x : ℕ). getD m₂ x 0) (omega arith) ∙ w .starts
 
-  to-is : getD P (entryAt (next m) + 1) 0 ≡ from
-  to-is = entry-byte 1 (omega arith) ∙ w .ends
+  from-is : fromOf P (next m) ≡ to
+  from-is = omega (arith, first-byte, d, able .fits)
+
+  to-is : toOf P (next m) ≡ from
+  to-is = omega (arith, entry-byte 1 (omega arith), w .ends, d, able .fits)
 
   pair-is : (a : ℕ) → a < 30 → getD P (entryAt (next m) + a) 0 + 256 * getD P (entryAt (next m) + a + 1) 0 ≡ getD m₂ (e + a) 0 + 256 * getD m₂ (e + a + 1) 0
   pair-is a x = ap₂ (λ (p q : ℕ). p + 256 * q) (entry-byte a (omega arith)) (ap (λ (y : ℕ). getD P y 0) (omega arith) ∙ entry-byte (a + 1) (omega arith) ∙ ap (λ (y : ℕ). getD m₂ y 0) (omega arith))
 
   offset-is : offsetOf P (next m) ≡ offset
-  offset-is = pair-is 2 (omega arith) ∙ w .first
+  offset-is = omega (arith, pair-is 2 (omega arith), w .first, len-small)
 
   length-is : lengthOf P (next m) ≡ len
-  length-is = pair-is 4 (omega arith) ∙ w .long
+  length-is = omega (arith, pair-is 4 (omega arith), w .long, offset-is, len-small)
 
   head-byte : (i : ℕ) → i < headSize → getD P (headOf (next m) + i) 0 ≡ getD m (headAt + i) 0
   unfolding H
   head-byte i x = ap (λ (y : ℕ). getD P y 0) (omega arith) ∙ entry-byte (8 + i) (omega arith) ∙ ap (λ (y : ℕ). getD m₂ y 0) (omega arith) ∙ w .head i x ∙ c .below (headAt + i) (omega (arith, H))
 
   count-is : countOf P (next m) ≡ getD m headAt 0
-  count-is = ap (λ (y : ℕ). getD P y 0) (omega arith) ∙ head-byte 0 (omega arith)
+  unfolding H
+  count-is = (let e : getD P (headOf (next m)) 0 ≡ getD m headAt 0 = ap (λ (y : ℕ). getD P y 0) (omega arith) ∙ head-byte 0 (omega arith) in omega (arith, e, d, H))
+
+  head-is : set (part P (headOf (next m)) headSize) 0 (countOf P (next m)) ≡ part m headAt headSize
+  unfolding H
+  head-is =
+      ap₂ (λ (l : List ℕ) (k : ℕ). set l 0 k) (part-same m P headAt (headOf (next m)) headSize (omega (arith, H)) (omega (arith, H, kept)) head-byte)
+      (count-is ∙ sym (getD-part m headAt headSize 0 (omega arith)))
+      ∙ set-getD (part m headAt headSize) 0 0
 
   image-byte : (i : ℕ) → i < len → getD P (image + i) 0 ≡ getD m (at + i) 0
   unfolding H
@@ -146,7 +157,7 @@ module _ (m m₁ m₂ : List ℕ) (from to offset len at image e h n : ℕ) (abl
     offset = offset-is i;
     bytes = (ap₂ (λ (x y : ℕ). part P (imageAt x (next m)) y) d length-is ∙ ap (λ (x : ℕ). part P x len) (sym ei)
         ∙ part-same m P at image len (omega (arith, H, at-inside)) (omega (arith, kept, image-inside, len-small)) image-byte ∙ ap (λ (x : ℕ). part m x len) ea) i;
-    head = part-same m P headAt (headOf (next m)) headSize (omega (arith, H)) (omega (arith, H, kept)) head-byte i;
+    head = head-is i;
   }
 
   -- the other entries
@@ -164,13 +175,6 @@ module _ (m m₁ m₂ : List ℕ) (from to offset len at image e h n : ℕ) (abl
     | no b ↦ high i (omega arith)
   ]
 
-  fits-all : Sound m → (p : ℕ) → p < depth m → FitsAt P p
-  unfolding H
-  fits-all s p l = elim (same? p (next m)) as (λ _. FitsAt P p) [
-    | yes q ↦ subst (FitsAt P) (sym q) (omega (arith, from-is, to-is, offset-is, length-is, count-is, d, able .fits, H))
-    | no q ↦ fits-kept m P H kept d p (λ i x y. entries-else p l q i x (omega arith)) (s .fits p l)
-  ]
-
   pub saved : Saved m (saving m from to offset len) P
   unfolding H stays
   saved = record {
@@ -179,7 +183,6 @@ module _ (m m₁ m₂ : List ℕ) (from to offset len at image e h n : ℕ) (abl
     sound = λ s. record {
       header = stays .header;
       orderly = orderly-same (capacity m) (capacity P) (slot m) (slot P) d (s .orderly) (λ i l. below (orderAt + i) (omega arith) (omega (arith, H)));
-      fits = λ p l. fits-all s p (omega (arith, j));
     };
     same = λ s. current-kept m P H kept d (λ i x y. below i (omega arith) (omega (arith, H))) (λ i x y. mid i (omega (arith, H)) (omega arith)) (s .orderly .slots);
     offer = λ s. entries-pushed m P kept d j s (saving m from to offset len) z (next-is ∙ eh) (steps-is ∙ en) entry-is (λ p l q. (entries-else p l q, images-else p l q));

@@ -14,8 +14,7 @@ use Rattle.journal.specs.Contract.{AbleTo, Committed, Offered, Undone, l
 use Rattle.journal.specs.Parts.{Stays, Saved, Changed, Restored, saving}
 use Rattle.memory.proofs.Judge.{ft, tf}
 use Rattle.memory.proofs.Flat.{part-part, drop-same}
-use Rattle.memory.proofs.Read.{length-rooms, length-room, room-is}
-use Rattle.journal.proofs.Places.{place-below}
+use Rattle.memory.proofs.Read.{fitting, length-rooms, length-room, room-is}
 use Rattle.journal.proofs.Save.{stays-twice}
 use Rattle.journal.proofs.Change.{Right, exact, pasts-take}
 
@@ -126,7 +125,7 @@ stepped-back m m′ o r = record {
 offered-sound : (m : List ℕ) → Sound m → 0 < steps m → Offered m
 offered-sound m s z =
     let h = s .header in
-    let f = s .fits (last m) (place-below (next m) (depth m) 0 (omega (arith, h)) (omega (arith, h))) in
+    let f = fitting m h (last m) in
     record { some = z; able = record { header = h; fits = f; there = s .orderly .slots (fromOf m (last m)) (f .starts) } }
 
 pub stepped-not : (m : List ℕ) → (Offered m → ⊥) → Undone m m false

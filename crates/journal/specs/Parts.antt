@@ -6,7 +6,7 @@ use lib.ListN.{length, getD, take}
 use lib.Dec.{eqb}
 use Rattle.memory.specs.Bytes.{part, move}
 use Rattle.memory.specs.Layout.{roomSize, most, mark, markAt, imageAt, domainAt, domainMost, roomAt, headAt, headSize, orderAt, capacity, depth, domainLength, size, slot, fromOf, two, entrySize}
-use Rattle.memory.specs.Sound.{Header, FitsAt, Sound}
+use Rattle.memory.specs.Sound.{Header, Sound}
 use Rattle.memory.specs.State.{Change, change, pick, current, entries}
 
 -- the n bytes from `to` on are f 0, f 1, .. now, and the others are as they were
@@ -36,7 +36,6 @@ turn h j = pick (eqb (suc h) j) 0 (suc h)
 
 -- the entry at the place p can be undone
 pub record Ready (m : List ℕ) (p : ℕ) : Type 0 where
-  pub fits : FitsAt m p
   pub there : slot m (fromOf m p) < capacity m
 
 -- an entry of 32 bytes was written: `from` and `to` swapped, the offset and the length in two bytes each, the head

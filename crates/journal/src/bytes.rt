@@ -1,11 +1,12 @@
 // Bytes read, written, copied and moved.
 ghost use mathlib.Core.Path.{_≡_};
 ghost use mathlib.Core.Logic.{_⊎_};
-ghost use Prim.Native.Nat.{_+_, _*_, _≤_, _<_, _/_, _%_};
-ghost use lib.ListN.{length, getD};
+ghost use Prim.Native.Nat.{_+_, _*_, _≤_, _<_, _/_, _%_, min};
+ghost use lib.ListN.{length, getD, set};
 ghost use Rattle.memory.specs.Bytes.{part, move};
-ghost use Rattle.memory.specs.Layout.{two, headSize};
+ghost use Rattle.memory.specs.Layout.{two, headSize, capacity};
 ghost use Rattle.journal.specs.Parts.{Over, Toward};
+use memory::CAPACITY;
 use memory::HEAD_SIZE;
 
 pub(crate) fn wide(x: u8) -> usize
@@ -27,18 +28,28 @@ pub(crate) fn high(x: usize) -> u8
     (x / 256) as u8
 }
 
-// The number in two bytes.
-pub(crate) fn number_at(mem: &[u8], a: usize) -> usize
-    requires { ⌜ a + 2 ≤ length (now mem) ⌝ }
-    ensures { λ r. ⌜ (r ≡ two (now (mem .entry)) a) × (r < 65536) ⌝ }
+// The byte at a place, or the limit that it is past.
+pub(crate) fn byte_at(mem: &[u8], a: usize, limit: u8) -> u8
+    requires { ⌜ a < length (now mem) ⌝ }
+    ensures { λ r. ⌜ r ≡ min (getD (now (mem .entry)) a 0) limit ⌝ }
 {
-    wide(mem[a]) + 256 * wide(mem[a + 1])
+    let x = mem[a];
+    if x < limit { x } else { limit }
 }
 
-// A copy of a head.
+// The number in two bytes, or the limit that it is past.
+pub(crate) fn number_at(mem: &[u8], a: usize, limit: usize) -> usize
+    requires { ⌜ a + 2 ≤ length (now mem) ⌝ }
+    ensures { λ r. ⌜ r ≡ min (two (now (mem .entry)) a) limit ⌝ }
+{
+    let x = wide(mem[a]) + 256 * wide(mem[a + 1]);
+    if x < limit { x } else { limit }
+}
+
+// A copy of a head, with at most D devices.
 pub(crate) fn head_at(mem: &[u8], a: usize) -> [u8; HEAD_SIZE]
     requires { ⌜ a + headSize ≤ length (now mem) ⌝ }
-    ensures { λ r. ⌜ r ≡ part (now (mem .entry)) a headSize ⌝ }
+    ensures { λ r. ⌜ r ≡ set (part (now (mem .entry)) a headSize) 0 (min (getD (now (mem .entry)) a 0) (capacity (now (mem .entry)))) ⌝ }
 {
     let mut head = [0u8; HEAD_SIZE];
     let mut i = 0;
@@ -46,6 +57,7 @@ pub(crate) fn head_at(mem: &[u8], a: usize) -> [u8; HEAD_SIZE]
         head[i] = mem[a + i];
         i += 1;
     }
+    head[0] = byte_at(mem, a, mem[CAPACITY]);
     head
 }
 

@@ -1,12 +1,13 @@
 // The ring of entries, the order and the head: what saves, makes and undoes a change.
 ghost use mathlib.Core.Path.{_≡_};
 ghost use mathlib.Core.Bool.{true, false};
-ghost use Prim.Native.Nat.{suc, _+_, _≤_, _<_, min};
+ghost use Prim.Native.Nat.{suc, _+_, _-_, _≤_, _<_, min};
 ghost use lib.ListN.{length, set, getD};
 ghost use Rattle.memory.specs.Layout.{nextAt, stepsAt, headAt, headSize, orderAt, entrySize, roomSize, capacity, depth, most, imageAt};
 ghost use Rattle.memory.specs.State.{place, entry};
 ghost use Rattle.journal.specs.Parts.{Settled, Noted, Saved, Ready, Changed, turn, saving};
 ghost use Rattle.memory.specs.Sound.{Header, Able};
+use crate::bytes::byte_at;
 use crate::bytes::copy;
 use crate::bytes::head_at;
 use crate::bytes::high;
@@ -25,7 +26,6 @@ use memory::NEXT;
 use memory::ORDER;
 use memory::ROOM;
 use memory::STEPS;
-use memory::able;
 use memory::room_start;
 
 pub(crate) fn next_place(h: u8, j: u8) -> u8
@@ -116,16 +116,24 @@ pub(crate) fn save(mem: &mut [u8], from: u8, to: u8, offset: usize, len: usize)
     set_ring(mem, next_place(h, j), one_more(n, j));
 }
 
+// The place of the order in a byte, or the last one if it is past it.
+fn place_at(mem: &[u8], a: usize) -> u8
+    requires { ⌜ (a < length (now mem)) × Header (now mem) ⌝ }
+    ensures { λ r. ⌜ r ≡ min (getD (now (mem .entry)) a 0) (capacity (now (mem .entry)) - 1) ⌝ }
+{
+    byte_at(mem, a, mem[CAPACITY] - 1)
+}
+
 // Makes the change that the entry at a place tells of.
 pub(crate) fn replay(mem: &mut [u8], p: u8)
     requires { ⌜ (p < depth (now mem)) × Header (now mem) × Ready (now mem) p ⌝ }
     ensures { λ _. ⌜ Changed (now (mem .entry)) (entry (now (mem .entry)) p) (now (mem .exit)) ⌝ }
 {
     let a = ENTRIES + ENTRY_SIZE * wide(p);
-    let from = mem[a];
-    let to = mem[a + 1];
-    let offset = number_at(mem, a + 2);
-    let len = number_at(mem, a + 4);
+    let from = place_at(mem, a);
+    let to = place_at(mem, a + 1);
+    let offset = number_at(mem, a + 2, ROOM);
+    let len = number_at(mem, a + 4, ROOM - offset);
     let head = head_at(mem, a + 8);
     let image = image_start(mem, p);
     let at = room_start(mem, from) + offset;
@@ -133,13 +141,11 @@ pub(crate) fn replay(mem: &mut [u8], p: u8)
     settle(mem, from, to, &head);
 }
 
-// Whether the entry at a place can be undone.
+// Whether the entry at a place can be undone: its slot is one.
 pub(crate) fn ready(mem: &[u8], p: usize) -> bool
     requires { ⌜ (p < most) × Header (now mem) ⌝ }
     ensures { λ r. ⌜ (r ≡ true → Ready (now (mem .entry)) p) × (r ≡ false → Ready (now (mem .entry)) p → ⊥) ⌝ }
 {
-    let a = ENTRIES + ENTRY_SIZE * p;
-    let offset = number_at(mem, a + 2);
-    let len = number_at(mem, a + 4);
-    able(mem, mem[a], mem[a + 1], mem[a + 8], offset, len)
+    let from = place_at(mem, ENTRIES + ENTRY_SIZE * p);
+    mem[ORDER + wide(from)] < mem[CAPACITY]
 }

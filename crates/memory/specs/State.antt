@@ -5,7 +5,7 @@ use mathlib.Core.List.{List, [], _∷_, map}
 use lib.ListN.{length, getD, set, take}
 use lib.Dec.{ltb}
 use Rattle.memory.specs.Bytes.{part, put, move, tab}
-use Rattle.memory.specs.Layout.{roomSize, roomAt, imageAt, headAt, headSize, orderAt, domainAt, capacity, depth, next, steps, domainLength, fromOf, toOf, offsetOf, lengthOf, headOf}
+use Rattle.memory.specs.Layout.{roomSize, roomAt, imageAt, headAt, headSize, orderAt, domainAt, capacity, depth, next, steps, domainLength, fromOf, toOf, offsetOf, lengthOf, headOf, countOf}
 
 -- the head, whose first byte is the number n of devices, and the D rooms in their order: n devices by rank, then the free ones
 pub record Now : Type 0 where
@@ -61,14 +61,14 @@ room m k = part m (roomAt k) roomSize
 unfoldable pub current : List ℕ → Now
 current m = record { head = part m headAt headSize; rooms = map (room m) (order m) }
 
--- the entry at the place p of the ring
+-- the entry at the place p of the ring; its head is the one saved, with the number of devices as read
 unfoldable pub entry : List ℕ → ℕ → Change
 entry m p = record {
   from = fromOf m p;
   to = toOf m p;
   offset = offsetOf m p;
   bytes = part m (imageAt (capacity m) p) (lengthOf m p);
-  head = part m (headOf p) headSize;
+  head = set (part m (headOf p) headSize) 0 (countOf m p);
 }
 
 abbrev pub pick : {A : Type 0} → Bool → A → A → A

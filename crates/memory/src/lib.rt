@@ -2,11 +2,11 @@
 // Nothing here knows what a room holds.
 ghost use mathlib.Core.Path.{_≡_};
 ghost use mathlib.Core.Bool.{true, false};
-ghost use Prim.Native.Nat.{_+_, _≤_, _<_};
+ghost use Prim.Native.Nat.{ℕ, _+_, _≤_, _<_};
 ghost use lib.ListN.{length, getD};
-ghost use Rattle.memory.specs.Layout.{roomSize, most, orderAt, slot, roomAt, two};
-ghost use Rattle.memory.specs.Sound.{Header, Orderly, Fits, FitsAt, Able, Sound};
-ghost use Rattle.memory.specs.Parts.{Counters};
+ghost use Rattle.memory.specs.Layout.{roomSize, most, orderAt, slot, roomAt};
+ghost use Rattle.memory.specs.Sound.{Header, Orderly, Fits, Able, Sound};
+ghost use Rattle.memory.specs.Parts.{Counters, Hits, total};
 
 // The layout: see specs/Layout.antt.
 pub const ROOM: usize = 8192;
@@ -45,14 +45,6 @@ fn wide(x: u8) -> usize
     ensures { λ r. ⌜ (r ≡ x) × (r < 256) ⌝ }
 {
     x as usize
-}
-
-// The number in two bytes.
-fn number_at(mem: &[u8], a: usize) -> usize
-    requires { ⌜ a + 2 ≤ length (now mem) ⌝ }
-    ensures { λ r. ⌜ (r ≡ two (now (mem .entry)) a) × (r < 65536) ⌝ }
-{
-    wide(mem[a]) + 256 * wide(mem[a + 1])
 }
 
 // The byte at a place, 0 past the end.
@@ -121,27 +113,45 @@ pub fn header(mem: &[u8]) -> bool
     counters(mem)
 }
 
-// Whether the order names each of d slots once.
+// A mark for each slot that the order names.
+fn marks(mem: &[u8], d: usize) -> [u8; 256]
+    requires { ⌜ (d ≤ most) × (orderAt + most ≤ length (now mem)) ⌝ }
+    ensures { λ r. ⌜ Hits (slot (now (mem .entry))) d r ⌝ }
+{
+    let mut seen = [0u8; 256];
+    let mut t: usize = 0;
+    while t < d {
+        let s = wide(mem[ORDER + t]);
+        seen[s] = 1;
+        t += 1;
+    }
+    seen
+}
+
+// How many of the first d slots are marked.
+fn marked(seen: &[u8; 256], d: usize) -> u8
+    requires { ⌜ (d ≤ most) × ((s : ℕ) → s < 256 → getD (now seen) s 0 ≤ 1) ⌝ }
+    ensures { λ r. ⌜ r ≡ total (λ s. getD (now (seen .entry)) s 0) d ⌝ }
+{
+    let mut n: u8 = 0;
+    let mut k: usize = 0;
+    while k < d {
+        n += seen[k];
+        k += 1;
+    }
+    n
+}
+
+// Whether the order names each of d slots once: d names mark d slots.
 fn orderly(mem: &[u8], d: usize) -> bool
     requires { ⌜ (d ≤ most) × (orderAt + most ≤ length (now mem)) ⌝ }
     ensures { λ r. ⌜ (r ≡ true → Orderly d (slot (now (mem .entry)))) × (r ≡ false → Orderly d (slot (now (mem .entry))) → ⊥) ⌝ }
 {
-    let mut seen: [u8; MOST] = [0; MOST];
-    let mut t: u8 = 0;
-    while wide(t) < d {
-        let s = wide(mem[ORDER + wide(t)]);
-        if d <= s {
-            return false;
-        }
-        if 0 < seen[s] {
-            return false;
-        }
-        t += 1;
-        seen[s] = t;
-    }
-    true
+    let seen = marks(mem, d);
+    wide(marked(&seen, d)) == d
 }
 
+// Whether d rooms can take a change.
 fn suits(d: u8, from: u8, to: u8, n: u8, offset: usize, len: usize) -> bool
     ensures { λ r. ⌜ (r ≡ true → Fits d from to n offset len) × (r ≡ false → Fits d from to n offset len → ⊥) ⌝ }
 {
@@ -157,21 +167,7 @@ fn suits(d: u8, from: u8, to: u8, n: u8, offset: usize, len: usize) -> bool
     if ROOM < offset {
         return false;
     }
-    if ROOM - offset < len {
-        return false;
-    }
-    true
-}
-
-// Whether the entry at a place of the ring is a change that the rooms can take.
-fn fits(mem: &[u8], p: usize) -> bool
-    requires { ⌜ (p < most) × (roomSize ≤ length (now mem)) ⌝ }
-    ensures { λ r. ⌜ (r ≡ true → FitsAt (now (mem .entry)) p) × (r ≡ false → FitsAt (now (mem .entry)) p → ⊥) ⌝ }
-{
-    let a = ENTRIES + ENTRY_SIZE * p;
-    let offset = number_at(mem, a + 2);
-    let len = number_at(mem, a + 4);
-    suits(mem[CAPACITY], mem[a], mem[a + 1], mem[a + 8], offset, len)
+    len <= ROOM - offset
 }
 
 // Whether a change can be made: the header is sound, the change fits, and the slot is one.
@@ -187,24 +183,12 @@ pub fn able(mem: &[u8], from: u8, to: u8, n: u8, offset: usize, len: usize) -> b
     mem[ORDER + wide(from)] < mem[CAPACITY]
 }
 
-// Whether memory is sound: one pass over the header, the order and the ring, whatever the rooms hold.
+// Whether memory is sound: the header and one pass over the order, whatever the ring and the rooms hold.
 pub fn sound(mem: &[u8]) -> bool
     ensures { λ r. ⌜ (r ≡ true → Sound (now (mem .entry))) × (r ≡ false → Sound (now (mem .entry)) → ⊥) ⌝ }
 {
     if !header(mem) {
         return false;
     }
-    let d = wide(mem[CAPACITY]);
-    if !orderly(mem, d) {
-        return false;
-    }
-    let j = wide(mem[DEPTH]);
-    let mut p = 0;
-    while p < j {
-        if !fits(mem, p) {
-            return false;
-        }
-        p += 1;
-    }
-    true
+    orderly(mem, wide(mem[CAPACITY]))
 }

@@ -4,15 +4,13 @@ use mathlib.Core.Path.{_≡_, refl, sym, ap, _∙_, subst}
 use mathlib.Core.Bool.{Bool, true, false, cond, false≢true}
 use mathlib.Core.List.{List}
 use mathlib.Core.Option.{none, some}
-use lib.Dec.{eqb}
 use Rattle.answer.specs.Answer.{Answer, refused, gives, andThen}
 use Rattle.topic.specs.declared.Place.{Place}
 use Rattle.topic.specs.Meaning.{bytesAt}
 use Rattle.memory.specs.Bytes.{part}
 use Rattle.memory.specs.Layout.{roomSize}
 use Rattle.rules.specs.declared.DeviceState.{DeviceState}
-use Rattle.rules.specs.declared.DeviceState.the-variants.{Init, Ready, Disconnected, Sleeping, Lost}
-use Rattle.rules.specs.States.{codeOf}
+use Rattle.rules.specs.declared.DeviceState.the-variants.{Lost}
 use Rattle.rules.specs.Table.{Device, rootOf}
 use Rattle.rules.specs.Find.{find}
 use Rattle.rules.specs.Questions.{Value, aText, twoStates, isLost, foundLost, rootLost, effective}
@@ -26,18 +24,6 @@ use Rattle.questions.specs.declared.Sought.the-variants.{Refused}
 use Rattle.questions.specs.declared.States.the-variants as states
 use Rattle.questions.specs.Meaning.{saysStates}
 use Rattle.questions.specs.Parts.{RoomOf, Seeks, statesOf}
-
-lost-code : (s : DeviceState) → eqb (codeOf s) 4 ≡ isLost s
-unfolding codeOf isLost
-lost-code Init = refl
-lost-code Ready = refl
-lost-code Disconnected = refl
-lost-code Sleeping = refl
-lost-code Lost = refl
-
-pub lost-in : (code : ℕ) (s : DeviceState) (v : Device) → s ≡ v .state → code ≡ codeOf s → eqb code 4 ≡ foundLost (gives v)
-unfolding foundLost
-lost-in code s v e h = ap (λ (k : ℕ). eqb k 4) h ∙ (lost-code s ∙ ap isLost e)
 
 -- sound memory refuses only because the device is not there
 pub not-lost : (m id : List ℕ) (x : Sought) (n : ℕ) → Sound m → Seeks m id x → x ≡ Refused n → false ≡ foundLost (find id (means m .now .devices))

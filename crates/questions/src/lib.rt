@@ -7,7 +7,7 @@ ghost use Rattle.memory.specs.Bytes.{part};
 ghost use Rattle.memory.specs.Layout.{roomSize};
 ghost use Rattle.rules.specs.Table.{propertiesOf, versionOf, laneOf};
 ghost use Rattle.rules.specs.Find.{find, findProperty};
-ghost use Rattle.rules.specs.Questions.{askCount, askNth, askStates, askRoot, askParent, askVersion, askFilled, askProperty, askLane, askLast, anId, aText, aVersion, aProperty, aLane, at, foundLost, effective};
+ghost use Rattle.rules.specs.Questions.{askCount, askNth, askStates, askRoot, askParent, askVersion, askFilled, askProperty, askLane, askLast, anId, aText, aVersion, aProperty, aLane, at, isLost, foundLost, effective};
 ghost use Rattle.device.specs.Decode.{deviceOf};
 ghost use Rattle.device.specs.Meaning.{textIn, Inside, shifted};
 ghost use Rattle.lookup.specs.Meaning.{Sound, means};
@@ -86,18 +86,26 @@ enum Sought {
     Room { start: usize },
 }
 
-fn seek(mem: &[u8], id: &[u8]) -> Sought
+// In sound memory.
+fn locate(mem: &[u8], id: &[u8]) -> Sought
+    requires { ⌜ Sound (now mem) ⌝ }
     ensures { λ r. ⌜ Seeks (now (mem .entry)) (now (id .entry)) r ⌝ }
 {
-    if !lookup::sound(mem) {
-        return Sought::Refused(6);
-    }
     let rank = lookup::find(mem, id);
     if rank >= lookup::count(mem) {
         return Sought::Refused(12);
     }
     let start = memory::room_start(mem, rank);
     Sought::Room { start: start }
+}
+
+fn seek(mem: &[u8], id: &[u8]) -> Sought
+    ensures { λ r. ⌜ Seeks (now (mem .entry)) (now (id .entry)) r ⌝ }
+{
+    if !lookup::sound(mem) {
+        return Sought::Refused(6);
+    }
+    locate(mem, id)
 }
 
 // A place of a room as a place of the memory.
@@ -155,10 +163,22 @@ pub fn nth(mem: &[u8], i: usize) -> Id
     id_in(mem, start)
 }
 
+fn is_lost_state(s: DeviceState) -> bool
+    ensures { λ r. ⌜ r ≡ isLost s ⌝ }
+{
+    match s {
+        DeviceState::Init => false,
+        DeviceState::Ready => false,
+        DeviceState::Disconnected => false,
+        DeviceState::Sleeping => false,
+        DeviceState::Lost => true,
+    }
+}
+
 fn is_lost_in(room: &[u8]) -> bool
     ensures { λ r. ⌜ r ≡ foundLost (gives (deviceOf (now (room .entry)))) ⌝ }
 {
-    rules::state_code(device::state(room)) == 4
+    is_lost_state(device::state(room))
 }
 
 // Whether a device of this ID is there and its own state is `lost`.
@@ -166,7 +186,7 @@ fn is_lost(mem: &[u8], id: &[u8]) -> bool
     requires { ⌜ Sound (now mem) ⌝ }
     ensures { λ r. ⌜ r ≡ foundLost (find (now (id .entry)) (means (now (mem .entry)) .now .devices)) ⌝ }
 {
-    match seek(mem, id) {
+    match locate(mem, id) {
         Sought::Refused(_) => false,
         Sought::Room { start: start } => is_lost_in(room_at(mem, start)),
     }

@@ -92,8 +92,8 @@ unfolding abnf.isEmpty abnf.again abnf.starts abnf.accepts answer.require answer
     digits.numeral integers.value json.byte json.run json.past json.isWs json.ws json.word json.andThen members.nextAt members.itemAt members.memberAt members.listFrom
     members.membersAt number.isDigit number.digitsEnd number.optional number.isMinus number.someDigits number.intAt number.fracAt number.isExp number.expAt number.numberAt
     strings.plainStep strings.textStep strings.text strings.stringAt value.kindOf value.after value.series value.listOf value.colon value.keyAt value.memberOf value.objectOf
-    value.valueOf value.valueAt value.atEnd value.documentOf fields.holds fields.oneMore fields.fieldIn fields.field fields.optional fields.isPresent fields.isTwice
-    fields.textIn fields.flagIn fields.membersIn fields.plainNames values.bytesAt values.textAt values.isText values.isObject values.isTrue values.isFlag values.members
+    value.valueOf value.valueAt value.atEnd value.documentOf fields.holds fields.oneMore fields.pairs fields.fieldIn fields.field fields.optional fields.isPresent fields.isTwice
+    fields.textIn fields.flagIn fields.membersIn fields.plainIn fields.plainNames values.bytesAt values.textAt values.isText values.isObject values.isTrue values.isFlag values.members
     values.nameOf values.all values.isPlain values.ofKind entries.noneEmpty entries.noRepeats datatypes.datatypeNamed formats.keptFormat payloads.isPayload
     property.datatypeIn property.isNamed property.plainText property.formatFits property.propertyRules property.typeOf property.textOf property.propertyAt property.insert
     property.insertAll nodes.idRules nodes.propertyMember nodes.each nodes.nodeRules nodes.nodeMember nodes.propertiesAmong nodes.propertiesOf description.allDigits

@@ -1,79 +1,43 @@
-use mathlib.Core.Path.{_≡_, _∙_}
-use Prim.Native.Nat.{_+_, _-_, _≤_}
-use native.Mathlib.Nat.{add-zero}
 use native.Mathlib.Omega.{arith}
-use Rattle.trace.specs.Bytes.{num}
-use Rattle.trace.proofs.Numbers.{num-none, num-room}
-use Rattle.device.proofs.Numbers.{number-step}
+use mathlib.Core.Path.{sym, _∙_}
+use Rattle.device.proofs.Numbers.{past-end, from-place}
 use borrow.Author.Needs.{needs}
 use Rattle.device.proofs.number_at.Statement.{statement}
 use Rattle.device.proofs.number_at.Tie as tie
 
-abbrev Inv-loop : tie.InvT-loop
-Inv-loop room at v₀ j₀ v j = (j ≤ 8) × (v ≡ num (8 - j) (at + j) room)
+sub-s : tie.Need-sub-s
+sub-s c = search needs
 
-abbrev μ-loop : tie.MeasureT-loop
-μ-loop room at v₀ j₀ v j = j
+part-s-start : tie.Need-part-s-start
+part-s-start c = search needs
 
-loop-holds : tie.Need-loop-holds Inv-loop μ-loop
-loop-holds c =
-    let a = c .before .args in
-    (search needs, num-none (a .at + 8) (a .room .now))
+part-s-end : tie.Need-part-s-end
+part-s-end c = search needs
 
-sub-j : tie.Need-sub-j Inv-loop μ-loop
-sub-j c = search needs
+up-to-eight-requires : tie.Need-up-to-eight-requires
+up-to-eight-requires c κs = search needs
 
-mul-v : tie.Need-mul-v Inv-loop μ-loop
-mul-v c =
-    let l = c .before in
-    let a = l .before .before .args in
-    let h = num-room (8 - l .loop .j) (a .at + l .loop .j) (a .room .now) (omega arith) (λ i. omega (arith, l .before .shared-slice-known .given i)) in
-    omega arith
+returns : tie.Need-returns
+returns c = c .up-to-eight .ensures ∙ from-place _ _ 8
 
-add-byte : tie.Need-add-byte Inv-loop μ-loop
-add-byte c = search needs
+eight-requires : tie.Need-eight-requires
+eight-requires c κs = search needs
 
-byte-requires : tie.Need-byte-requires Inv-loop μ-loop
-byte-requires c κs = search needs
+returns-2 : tie.Need-returns-2
+returns-2 c = c .eight .ensures ∙ from-place _ _ 8
 
-cast-v : tie.Need-cast-v Inv-loop μ-loop
-cast-v c = search needs
-
-add-v : tie.Need-add-v Inv-loop μ-loop
-add-v c =
-    let l = c .before .before in
-    let a = l .before .before .args in
-    let h = num-room (8 - l .loop .j) (a .at + l .loop .j) (a .room .now) (omega arith) (λ i. omega (arith, l .before .shared-slice-known .given i)) in
-    omega arith
-
-loop-less : tie.Need-loop-less Inv-loop μ-loop
-loop-less c = search needs
-
-loop-again : tie.Need-loop-again Inv-loop μ-loop
-loop-again c =
-    let l = c .before .before in
-    let a = l .before .before .args in
-    (search needs, number-step (a .room .now) (a .at) (l .loop .j) (l .loop .v) (c .byte .result) (omega arith) (omega arith) (l .loop .inv .1) (c .byte .ensures))
-
-returns : tie.Need-returns Inv-loop μ-loop
-returns c =
-    let l = c .before in
-    let z : l .loop .j ≡ 0 = omega arith in
-    l .loop .inv .1 ∙ rw (z, add-zero)
+returns-3 : tie.Need-returns-3
+returns-3 c = let a = c .before .before .args in sym (past-end (a .bytes .now) (a .at) 8 (omega arith))
 
 pub number-at-spec : {M : Type 1} → statement M
 number-at-spec =
     tie.close
     (tie.spec
-    Inv-loop
-    μ-loop
-    loop-holds
-    sub-j
-    mul-v
-    add-byte
-    byte-requires
-    cast-v
-    add-v
-    loop-less
-    loop-again
-    returns)
+    sub-s
+    part-s-start
+    part-s-end
+    up-to-eight-requires
+    returns
+    eight-requires
+    returns-2
+    returns-3)

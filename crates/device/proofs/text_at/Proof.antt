@@ -1,47 +1,53 @@
+use native.Mathlib.Omega.{arith}
+use mathlib.Core.Path.{refl}
 use Rattle.device.proofs.Texts.{text-in}
 use borrow.Author.Needs.{needs}
 use Rattle.device.proofs.text_at.Statement.{statement}
 use Rattle.device.proofs.text_at.Tie as tie
 
-byte-requires : tie.Need-byte-requires
-byte-requires c κs = search needs
+add-if1 : tie.Need-add-if1
+add-if1 c = search needs
+
+clipped-text-requires : tie.Need-clipped-text-requires
+clipped-text-requires c κs = search needs
+
+returns : tie.Need-returns
+returns c = search needs
+
+shared-slice-read-least : tie.Need-shared-slice-read-least
+shared-slice-read-least c = search needs
 
 cast-least : tie.Need-cast-least
-cast-least c = search needs
+cast-least c = omega (arith, c .shared-slice-known2 .given (c .before .before .before .args .at))
 
 least-requires : tie.Need-least-requires
 least-requires c κs = search needs
 
-add-least : tie.Need-add-least
-add-least c = search needs
+add-t6 : tie.Need-add-t6
+add-t6 c = search needs
 
-least-requires-2 : tie.Need-least-requires-2
-least-requires-2 c κs = search needs
+add-t5 : tie.Need-add-t5
+add-t5 c = search needs
 
-add-least-2 : tie.Need-add-least-2
-add-least-2 c = search needs
+add-t10 : tie.Need-add-t10
+add-t10 c = search needs
 
-add-least-3 : tie.Need-add-least-3
-add-least-3 c = search needs
-
-least-requires-3 : tie.Need-least-requires-3
-least-requires-3 c κs = search needs
-
-returns : tie.Need-returns
-returns c =
-    let a = c .before .before .before .before .before .args in
-    text-in (a .room .now) (a .at) (a .most) _ _ _ _ (c .before .before .before .byte .ensures) (c .before .before .least .ensures) (c .before .least2 .ensures) (c .least3 .ensures)
+returns-2 : tie.Need-returns-2
+returns-2 c =
+    let a = c .before .before .before .before .args in
+    text-in (a .room .now) (a .at) (a .most) _ _ _ _ refl (c .least .ensures) (omega arith) (omega arith)
 
 pub text-at-spec : {M : Type 1} → statement M
 text-at-spec =
     tie.close
     (tie.spec
-    byte-requires
+    add-if1
+    clipped-text-requires
+    returns
+    shared-slice-read-least
     cast-least
     least-requires
-    add-least
-    least-requires-2
-    add-least-2
-    add-least-3
-    least-requires-3
-    returns)
+    add-t6
+    add-t5
+    add-t10
+    returns-2)

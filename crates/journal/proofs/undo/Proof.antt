@@ -66,7 +66,7 @@ returns-4 c = let m = c .before .before .before .before .before .before .before 
     let h = c .before .before .before .before .before .before .before .before .before .before .before .before .before .before .before .before .before .before .header .ensures .0 (not-false _ (c .before .before .before .before .before .before .before .before .before .before .before .before .before .before .before .before .before .if1 .left)) in
     let z : 1 ≤ getD m 4 0 = omega (arith, c .before .before .before .before .before .before .before .before .before .before .before .before .before .before .before .if2 .left) in
     let r = subst (Ready m) (c .before .before .before .before .before .before .before .before .before .before .wide .ensures .0) (c .before .before .before .before .before .before .before .before .before .ready .ensures .0 (not-false _ (c .before .before .before .before .before .before .before .before .if3 .left))) in
-    stepped-back _ _ (record { some = z; able = able-ready m _ h (subst (Ready m) (c .before .before .before .before .before .before .before .before .before .before .before .before .place-before .ensures) r) }) (undone-to m (c .before .before .before .before .before .before .before .before .before .before .before .before .place-before .result) (getD m 4 0 - 1) h z (c .before .before .before .before .before .before .before .before .before .before .before .before .place-before .ensures) refl (c .before .before .before .before .before .before .set-ring .last .0) (c .before .before .before .before .before .before .set-ring .ensures) r (c .before .before .replay .last .0) (c .before .before .replay .ensures))
+    stepped-back _ _ (record { some = z; able = able-ready m _ h (subst (Ready m) (c .before .before .before .before .before .before .before .before .before .before .before .before .place-before .ensures) r) }) (undone-to m (c .before .before .before .before .before .before .before .before .before .before .before .before .place-before .result) (getD m 4 0 - 1) h z (c .before .before .before .before .before .before .before .before .before .before .before .before .place-before .ensures) refl (c .before .before .before .before .before .before .set-ring .last .0) (c .before .before .before .before .before .before .set-ring .ensures) (c .before .before .replay .last .0) (c .before .before .replay .ensures))
 
 pub undo-spec : {M : Type 1} → statement M
 undo-spec =

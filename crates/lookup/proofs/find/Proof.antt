@@ -1,10 +1,11 @@
 use Prim.Native.Nat.{ℕ, _-_}
-use mathlib.Core.Path.{sym, _∙_}
+use native.Mathlib.Omega.{arith}
+use mathlib.Core.Path.{refl, sym, _∙_}
 use mathlib.Core.List.{List}
 use Rattle.text.specs.Bytes.{eqBytes}
 use Rattle.lookup.specs.Meaning.{means}
 use Rattle.lookup.proofs.Lists.{Passed, passed-none}
-use Rattle.lookup.proofs.Ranks.{byId, found, passed, not-found}
+use Rattle.lookup.proofs.Ranks.{byId, has-slot, found, passed, not-found}
 use borrow.Author.Needs.{needs}
 use Rattle.lookup.proofs.find.Statement.{statement}
 use Rattle.lookup.proofs.find.Tie as tie
@@ -21,14 +22,11 @@ count-requires c κs = search needs
 loop-holds : tie.Need-loop-holds Inv-loop μ-loop
 loop-holds c = passed-none _ _
 
-id-at-requires : tie.Need-id-at-requires Inv-loop μ-loop
-id-at-requires c κs = search needs
-
-same-requires : tie.Need-same-requires Inv-loop μ-loop
-same-requires c κs = search needs
+has-id-requires : tie.Need-has-id-requires Inv-loop μ-loop
+has-id-requires c κs = let h = has-slot _ _ _ (c .before .before .count .ensures) (c .loop-test .taken) in omega arith
 
 returns : tie.Need-returns Inv-loop μ-loop
-returns c = let a = c .before .before .before .before .before .before .before .before .args in found (a .mem .now) (λ (s : List ℕ). eqBytes s (a .id .now)) _ _ (c .before .before .before .before .before .count .ensures) (c .before .before .before .before .loop .inv) _ (c .before .before .before .loop-test .taken) (c .before .before .id-at .ensures) (sym (c .before .same .ensures) ∙ c .if1 .taken)
+returns c = let a = c .before .before .before .before .before .before .before .args in found (a .mem .now) (λ (s : List ℕ). eqBytes s (a .id .now)) _ _ (c .before .before .before .before .count .ensures) (c .before .before .before .loop .inv) _ (c .before .before .loop-test .taken) refl (sym (c .before .has-id .ensures) ∙ c .if1 .taken)
 
 add-i : tie.Need-add-i Inv-loop μ-loop
 add-i c = search needs
@@ -37,7 +35,7 @@ loop-less : tie.Need-loop-less Inv-loop μ-loop
 loop-less c = search needs
 
 loop-again : tie.Need-loop-again Inv-loop μ-loop
-loop-again c = let a = c .before .before .before .before .before .before .before .before .args in passed (a .mem .now) (λ (s : List ℕ). eqBytes s (a .id .now)) _ _ (c .before .before .before .before .before .count .ensures) (c .before .before .before .before .loop .inv) _ (c .before .before .before .loop-test .taken) (c .before .before .id-at .ensures) (sym (c .before .same .ensures) ∙ c .if1 .left)
+loop-again c = let a = c .before .before .before .before .before .before .before .args in passed (a .mem .now) (λ (s : List ℕ). eqBytes s (a .id .now)) _ _ (c .before .before .before .before .count .ensures) (c .before .before .before .loop .inv) _ (c .before .before .loop-test .taken) refl (sym (c .before .has-id .ensures) ∙ c .if1 .left)
 
 returns-2 : tie.Need-returns-2 Inv-loop μ-loop
 returns-2 c = let a = c .before .before .before .before .before .args in not-found (a .mem .now) (λ (s : List ℕ). eqBytes s (a .id .now)) _ _ (c .before .before .count .ensures) (c .before .loop .inv) (c .loop-test .left)
@@ -50,8 +48,7 @@ find-spec =
     μ-loop
     count-requires
     loop-holds
-    id-at-requires
-    same-requires
+    has-id-requires
     returns
     add-i
     loop-less

@@ -1,10 +1,11 @@
 use Prim.Native.Nat.{ℕ, _-_}
+use native.Mathlib.Omega.{arith}
 use mathlib.Core.Path.{sym, _∙_}
 use mathlib.Core.List.{List}
 use Rattle.text.specs.Bytes.{lessBytes}
 use Rattle.lookup.specs.Meaning.{means}
 use Rattle.lookup.proofs.Lists.{Passed, passed-none}
-use Rattle.lookup.proofs.Ranks.{byId, found, passed, not-found}
+use Rattle.lookup.proofs.Ranks.{byId, has-slot, found, passed, not-found}
 use borrow.Author.Needs.{needs}
 use Rattle.lookup.proofs.place_for.Statement.{statement}
 use Rattle.lookup.proofs.place_for.Tie as tie
@@ -22,7 +23,7 @@ loop-holds : tie.Need-loop-holds Inv-loop μ-loop
 loop-holds c = passed-none _ _
 
 id-at-requires : tie.Need-id-at-requires Inv-loop μ-loop
-id-at-requires c κs = search needs
+id-at-requires c κs = let h = has-slot _ _ _ (c .before .before .count .ensures) (c .loop-test .taken) in omega arith
 
 precedes-requires : tie.Need-precedes-requires Inv-loop μ-loop
 precedes-requires c κs = search needs

@@ -1,7 +1,8 @@
-use Prim.Native.Nat.{_+_, _-_, _≤_}
+use Prim.Native.Nat.{ℕ, _+_, _-_, _≤_}
 use native.Mathlib.Omega.{arith}
-use mathlib.Core.Path.{refl}
-use lib.ListN.{getD}
+use mathlib.Core.Path.{refl, ap₂}
+use mathlib.Core.List.{List}
+use lib.ListN.{getD, set}
 use borrow.Author.Needs.{needs}
 use Rattle.journal.specs.Parts.{Over}
 use Rattle.journal.proofs.Loops.{over-none, over-more, over-part}
@@ -35,8 +36,17 @@ loop-less c = omega arith
 loop-again : tie.Need-loop-again Inv-loop μ-loop
 loop-again c = (omega arith, over-more _ _ _ _ _ _ _ (omega arith) (omega arith) refl (c .before .before .loop .inv .1))
 
+shared-slice-read-byte-at : tie.Need-shared-slice-read-byte-at Inv-loop μ-loop
+shared-slice-read-byte-at c = search needs
+
+byte-at-requires : tie.Need-byte-at-requires Inv-loop μ-loop
+byte-at-requires c κs = search needs
+
+array-write-head-2 : tie.Need-array-write-head-2 Inv-loop μ-loop
+array-write-head-2 c = search needs
+
 returns : tie.Need-returns Inv-loop μ-loop
-returns c = over-part _ _ _ _ _ _ (omega arith) refl (omega arith) (c .before .loop .inv .1)
+returns c = ap₂ (λ (l : List ℕ) (n : ℕ). set l 0 n) (over-part _ _ _ _ _ _ (omega arith) refl (omega arith) (c .before .before .before .loop .inv .1)) (c .byte-at .ensures)
 
 pub head-at-spec : {M : Type 1} → statement M
 head-at-spec =
@@ -51,4 +61,7 @@ head-at-spec =
     add-i
     loop-less
     loop-again
+    shared-slice-read-byte-at
+    byte-at-requires
+    array-write-head-2
     returns)

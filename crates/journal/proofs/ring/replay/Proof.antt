@@ -1,7 +1,7 @@
 use Prim.Native.Nat.{ℕ, _+_, _*_}
 use native.Mathlib.Omega.{arith}
 use mathlib.Core.Logic.{inr}
-use mathlib.Core.Path.{_≡_, refl, ap, _∙_}
+use mathlib.Core.Path.{_≡_, ap}
 use lib.ListN.{getD}
 use borrow.Author.Needs.{needs}
 use Rattle.journal.proofs.Restore.{raw, replayed}
@@ -17,56 +17,59 @@ mul-a c = search needs
 add-a : tie.Need-add-a
 add-a c = search needs
 
-slice-read-from : tie.Need-slice-read-from
-slice-read-from c = omega (arith, c .before .wide .ensures .0)
+place-at-requires : tie.Need-place-at-requires
+place-at-requires c κs = search needs
 
-add-to : tie.Need-add-to
-add-to c = search needs
+add-place-at : tie.Need-add-place-at
+add-place-at c = search needs
 
-slice-read-to : tie.Need-slice-read-to
-slice-read-to c = omega (arith, c .before .before .wide .ensures .0)
+place-at-requires-2 : tie.Need-place-at-requires-2
+place-at-requires-2 c κs = search needs
 
 add-number-at : tie.Need-add-number-at
 add-number-at c = search needs
 
 number-at-requires : tie.Need-number-at-requires
-number-at-requires c κs = omega (arith, c .before .before .before .wide .ensures .0)
+number-at-requires c κs = search needs
 
 add-number-at-2 : tie.Need-add-number-at-2
 add-number-at-2 c = search needs
 
+sub-number-at : tie.Need-sub-number-at
+sub-number-at c = search needs
+
 number-at-requires-2 : tie.Need-number-at-requires-2
-number-at-requires-2 c κs = omega (arith, c .before .before .before .before .before .wide .ensures .0)
+number-at-requires-2 c κs = search needs
 
 add-head-at : tie.Need-add-head-at
 add-head-at c = search needs
 
 head-at-requires : tie.Need-head-at-requires
-head-at-requires c κs = omega (arith, c .before .before .before .before .before .before .before .wide .ensures .0)
+head-at-requires c κs = search needs
 
 image-start-requires : tie.Need-image-start-requires
-image-start-requires c κs = omega arith
+image-start-requires c κs = search needs
 
 room-start-requires : tie.Need-room-start-requires
 room-start-requires c κs = search needs
 
 add-at : tie.Need-add-at
-add-at c = let r = raw (c .before .before .before .before .before .before .before .before .before .before .before .before .before .before .args .mem .now) _ (128 + 32 * c .before .before .before .before .before .before .before .before .before .before .before .before .wide .result) (omega (arith, c .before .before .before .before .before .before .before .before .before .before .before .before .wide .ensures .0)) (c .before .before .before .before .before .before .before .before .before .before .before .before .before .before .pre .2) in omega (arith, r, c .room-start .ensures, c .before .before .before .before .before .before .before .before .number-at .ensures .0)
+add-at c = let r = raw (c .before .before .before .before .before .before .before .before .before .before .before .before .before .before .before .before .args .mem .now) _ (128 + 32 * c .before .before .before .before .before .before .before .before .before .before .before .before .before .before .wide .result) _ _ _ _ (omega (arith, c .before .before .before .before .before .before .before .before .before .before .before .before .before .before .wide .ensures .0)) (c .before .before .before .before .before .before .before .before .before .before .before .before .before .before .before .before .pre .1) (c .before .before .before .before .before .before .before .before .before .before .before .before .before .before .before .before .pre .2) (c .before .before .before .before .before .before .before .before .before .before .before .before .place-at .ensures) (c .before .before .before .before .before .before .before .before .before .before .place-at2 .ensures) (c .before .before .before .before .before .before .before .before .number-at .ensures) (c .before .before .before .before .before .before .number-at2 .ensures) in omega (arith, r, c .room-start .ensures)
 
 copy-requires : tie.Need-copy-requires
-copy-requires c κs = let r = raw (c .before .before .before .before .before .before .before .before .before .before .before .before .before .before .before .args .mem .now) _ (128 + 32 * c .before .before .before .before .before .before .before .before .before .before .before .before .before .wide .result) (omega (arith, c .before .before .before .before .before .before .before .before .before .before .before .before .before .wide .ensures .0)) (c .before .before .before .before .before .before .before .before .before .before .before .before .before .before .before .pre .2) in
-    ((omega (arith, r, c .before .room-start .ensures, c .before .before .before .image-start .ensures, c .before .before .before .before .before .before .before .before .before .number-at .ensures .0, c .before .before .before .before .before .before .before .number-at2 .ensures .0), omega (arith, r, c .before .room-start .ensures, c .before .before .before .image-start .ensures, c .before .before .before .before .before .before .before .before .before .number-at .ensures .0, c .before .before .before .before .before .before .before .number-at2 .ensures .0)), inr (omega (arith, r, c .before .room-start .ensures, c .before .before .before .image-start .ensures, c .before .before .before .before .before .before .before .before .before .number-at .ensures .0, c .before .before .before .before .before .before .before .number-at2 .ensures .0)))
+copy-requires c κs = let r = raw (c .before .before .before .before .before .before .before .before .before .before .before .before .before .before .before .before .before .args .mem .now) _ (128 + 32 * c .before .before .before .before .before .before .before .before .before .before .before .before .before .before .before .wide .result) _ _ _ _ (omega (arith, c .before .before .before .before .before .before .before .before .before .before .before .before .before .before .before .wide .ensures .0)) (c .before .before .before .before .before .before .before .before .before .before .before .before .before .before .before .before .before .pre .1) (c .before .before .before .before .before .before .before .before .before .before .before .before .before .before .before .before .before .pre .2) (c .before .before .before .before .before .before .before .before .before .before .before .before .before .place-at .ensures) (c .before .before .before .before .before .before .before .before .before .before .before .place-at2 .ensures) (c .before .before .before .before .before .before .before .before .before .number-at .ensures) (c .before .before .before .before .before .before .before .number-at2 .ensures) in
+    ((omega (arith, r, c .before .room-start .ensures, c .before .before .before .image-start .ensures), omega (arith, r, c .before .room-start .ensures, c .before .before .before .image-start .ensures)), inr (omega (arith, r, c .before .room-start .ensures, c .before .before .before .image-start .ensures)))
 
 settle-requires : tie.Need-settle-requires
-settle-requires c κs = let r = raw (c .before .before .before .before .before .before .before .before .before .before .before .before .before .before .before .before .before .before .before .before .args .mem .now) _ (128 + 32 * c .before .before .before .before .before .before .before .before .before .before .before .before .before .before .before .before .before .before .wide .result) (omega (arith, c .before .before .before .before .before .before .before .before .before .before .before .before .before .before .before .before .before .before .wide .ensures .0)) (c .before .before .before .before .before .before .before .before .before .before .before .before .before .before .before .before .before .before .before .before .pre .2) in
-    let d : getD (c .before .before .before .before .copy .last .0) 1 0 ≡ getD (c .before .before .before .before .before .before .before .before .before .before .before .before .before .before .before .before .before .before .before .before .args .mem .now) 1 0 = c .before .before .before .before .copy .ensures .below 1 (omega arith) in
+settle-requires c κs = let r = raw (c .before .before .before .before .before .before .before .before .before .before .before .before .before .before .before .before .before .before .before .before .before .before .args .mem .now) _ (128 + 32 * c .before .before .before .before .before .before .before .before .before .before .before .before .before .before .before .before .before .before .before .before .wide .result) _ _ _ _ (omega (arith, c .before .before .before .before .before .before .before .before .before .before .before .before .before .before .before .before .before .before .before .before .wide .ensures .0)) (c .before .before .before .before .before .before .before .before .before .before .before .before .before .before .before .before .before .before .before .before .before .before .pre .1) (c .before .before .before .before .before .before .before .before .before .before .before .before .before .before .before .before .before .before .before .before .before .before .pre .2) (c .before .before .before .before .before .before .before .before .before .before .before .before .before .before .before .before .before .before .place-at .ensures) (c .before .before .before .before .before .before .before .before .before .before .before .before .before .before .before .before .place-at2 .ensures) (c .before .before .before .before .before .before .before .before .before .before .before .before .before .before .number-at .ensures) (c .before .before .before .before .before .before .before .before .before .before .before .before .number-at2 .ensures) in
+    let d : getD (c .before .before .before .before .copy .last .0) 1 0 ≡ getD (c .before .before .before .before .before .before .before .before .before .before .before .before .before .before .before .before .before .before .before .before .before .before .args .mem .now) 1 0 = c .before .before .before .before .copy .ensures .below 1 (omega arith) in
     ((omega (arith, r, d), omega (arith, r, d)), omega (arith, d, c .before .before .before .before .copy .ensures .kept))
 
 same-length : tie.Need-same-length
-same-length c = c .before .before .settle .kept .0 ∙ c .before .before .before .before .before .before .before .copy .kept .0
+same-length c = search needs
 
 returns : tie.Need-returns
-returns c = replayed (c .before .before .before .before .before .before .before .before .before .before .before .before .before .before .before .before .before .before .before .before .before .before .before .args .mem .now) (c .before .before .before .before .before .before .before .before .before .before .before .before .before .before .before .before .before .before .before .before .before .before .before .args .p) (c .before .before .before .before .before .before .before .before .before .before .before .before .before .before .before .before .before .before .before .before .before .before .before .pre .1) (c .before .before .before .before .before .before .before .before .before .before .before .before .before .before .before .before .before .before .before .before .before .before .before .pre .0) (c .before .before .before .before .before .before .before .before .before .before .before .before .before .before .before .before .before .before .before .before .before .before .before .pre .2) (c .before .before .before .before .before .before .before .copy .last .0) (c .before .before .settle .last .0) (c .before .before .before .before .before .before .before .before .before .before .before .before .before .head-at .result) (128 + 32 * c .before .before .before .before .before .before .before .before .before .before .before .before .before .before .before .before .before .before .before .before .before .wide .result) _ _ _ _ _ _ (omega (arith, c .before .before .before .before .before .before .before .before .before .before .before .before .before .before .before .before .before .before .before .before .before .wide .ensures .0)) refl refl (c .before .before .before .before .before .before .before .before .before .before .before .before .before .before .before .before .before .number-at .ensures .0) (c .before .before .before .before .before .before .before .before .before .before .before .before .before .before .before .number-at2 .ensures .0) (c .before .before .before .before .before .before .before .before .before .before .before .before .before .head-at .ensures) (c .before .before .before .before .before .before .before .before .before .before .before .image-start .ensures) (ap (λ (x : ℕ). x + c .before .before .before .before .before .before .before .before .before .before .before .before .before .before .before .before .before .number-at .result) (c .before .before .before .before .before .before .before .before .before .room-start .ensures)) (c .before .before .before .before .before .before .before .copy .ensures) (c .before .before .settle .ensures)
+returns c = replayed (c .before .before .before .before .before .before .before .before .before .before .before .before .before .before .before .before .before .before .before .before .before .before .before .before .before .args .mem .now) (c .before .before .before .before .before .before .before .before .before .before .before .before .before .before .before .before .before .before .before .before .before .before .before .before .before .args .p) (c .before .before .before .before .before .before .before .before .before .before .before .before .before .before .before .before .before .before .before .before .before .before .before .before .before .pre .1) (c .before .before .before .before .before .before .before .before .before .before .before .before .before .before .before .before .before .before .before .before .before .before .before .before .before .pre .0) (c .before .before .before .before .before .before .before .before .before .before .before .before .before .before .before .before .before .before .before .before .before .before .before .before .before .pre .2) (c .before .before .before .before .before .before .before .copy .last .0) (c .before .before .settle .last .0) (c .before .before .before .before .before .before .before .before .before .before .before .before .before .head-at .result) (128 + 32 * c .before .before .before .before .before .before .before .before .before .before .before .before .before .before .before .before .before .before .before .before .before .before .before .wide .result) _ _ _ _ _ _ (omega (arith, c .before .before .before .before .before .before .before .before .before .before .before .before .before .before .before .before .before .before .before .before .before .before .before .wide .ensures .0)) (c .before .before .before .before .before .before .before .before .before .before .before .before .before .before .before .before .before .before .before .before .before .place-at .ensures) (c .before .before .before .before .before .before .before .before .before .before .before .before .before .before .before .before .before .before .before .place-at2 .ensures) (c .before .before .before .before .before .before .before .before .before .before .before .before .before .before .before .before .before .number-at .ensures) (c .before .before .before .before .before .before .before .before .before .before .before .before .before .before .before .number-at2 .ensures) (c .before .before .before .before .before .before .before .before .before .before .before .before .before .head-at .ensures) (c .before .before .before .before .before .before .before .before .before .before .before .image-start .ensures) (ap (λ (x : ℕ). x + c .before .before .before .before .before .before .before .before .before .before .before .before .before .before .before .before .before .number-at .result) (c .before .before .before .before .before .before .before .before .before .room-start .ensures)) (c .before .before .before .before .before .before .before .copy .ensures) (c .before .before .settle .ensures)
 
 pub replay-spec : {M : Type 1} → statement M
 replay-spec =
@@ -75,12 +78,13 @@ replay-spec =
     wide-requires
     mul-a
     add-a
-    slice-read-from
-    add-to
-    slice-read-to
+    place-at-requires
+    add-place-at
+    place-at-requires-2
     add-number-at
     number-at-requires
     add-number-at-2
+    sub-number-at
     number-at-requires-2
     add-head-at
     head-at-requires
