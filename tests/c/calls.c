@@ -1,67 +1,135 @@
-/* Calls of the interface with their numbers and values; then the four events of the paper, as a trace file, to standard output. */
-#include <assert.h>
+/* Calls on traces, topics, payloads and descriptions; then the four events of the paper, as a trace file, to standard output. */
 #include <stdio.h>
-#include <stdlib.h>
-#include <string.h>
 
-#include "../../include/homie5.h"
+#include "check.h"
 
-static const uint8_t *bytes(const char *s)
-{
-    return (const uint8_t *)s;
-}
+#define HOMIE TEXT("homie")
+#define LAMP TEXT("lamp")
 
-static size_t add(uint8_t *buf, size_t len, size_t used, uint64_t time, const char *topic, int retained, const char *payload)
+static const char lamp[] =
+    "{\"homie\":\"5.0\",\"version\":1,\"nodes\":{\"light\":{\"properties\":{\"on\":{\"datatype\":\"boolean\",\"settable\":true}}}}}";
+
+static size_t add(uint8_t *buf, size_t len, size_t used, uint64_t time, const char *topic, uint8_t retained, const char *payload)
 {
     uint64_t out[1];
-    unsigned r = homie5_trace_append(buf, len, used, time, bytes(topic), strlen(topic), (uint8_t)retained, bytes(payload), strlen(payload), out, 1);
-    assert(r == HOMIE5_OK);
+    assert(homie5_trace_append(buf, len, used, time, TEXT(topic), retained, TEXT(payload), out, 1) == HOMIE5_OK);
     return (size_t)out[0];
 }
 
-static void judgements(void)
+static size_t write_trace(uint8_t *buf, size_t len)
 {
-    uint64_t out[2] = {7, 7};
-    assert(homie5_payload_judge(HOMIE5_INTEGER, bytes("2:6:2"), 5, bytes("1"), 1) == 1);
-    assert(homie5_payload_judge(HOMIE5_INTEGER, bytes("2:6:2"), 5, bytes("7"), 1) == 0);
-    assert(homie5_payload_judge(HOMIE5_COLOR, bytes("rgb"), 3, bytes("rgb,0,255,1e2"), 13) == 1);
-    assert(homie5_format_judge(HOMIE5_INTEGER, 0, bytes(""), 0, out, 2) == 1 && out[0] == HOMIE5_KEPT_COLON && out[1] == 7);
-    assert(homie5_format_judge(HOMIE5_ENUM, 1, bytes("a,a"), 3, out, 2) == 0 && out[0] == HOMIE5_KEPT_COLON);
-    assert(homie5_description_judge(bytes("lamp"), 4, bytes("{}"), 2) == HOMIE5_BAD_DESCRIPTION);
-    assert(homie5_description_judge(bytes("lamp"), 4, bytes("{\"homie\":\"5.0\",\"version\":1}"), 27) == HOMIE5_OK);
+    size_t used = 16;
+    used = add(buf, len, used, 4294967290u, "homie/5/lamp/$state", 1, "init");
+    used = add(buf, len, used, 4294967300u, "homie/5/lamp/$description", 1, lamp);
+    used = add(buf, len, used, 4294967300u, "homie/5/lamp/light/on/set", 0, "true");
+    return add(buf, len, used, 4294967301u, "homie/5/lamp/light/on", 1, "TRUE");
+}
+
+static void refused_writing(uint8_t *buf, size_t len, size_t used)
+{
+    uint8_t *before = malloc(len);
+    assert(before != NULL);
+    memcpy(before, buf, len);
+    REFUSES(HOMIE5_TOO_LONG, homie5_trace_empty(buf, 15, out, out_len));
+    REFUSES(HOMIE5_BAD_HEADER, homie5_trace_append(buf, len, used - 1, 1, TEXT("a"), 0, TEXT(""), out, out_len));
+    REFUSES(HOMIE5_BAD_HEADER, homie5_trace_append(buf, used, used + 1, 1, TEXT("a"), 0, TEXT(""), out, out_len));
+    REFUSES(HOMIE5_NO_FORM, homie5_trace_append(buf, len, used, 1, TEXT(""), 0, TEXT(""), out, out_len));
+    REFUSES(HOMIE5_EARLIER, homie5_trace_append(buf, len, used, 1, TEXT("a"), 0, TEXT(""), out, out_len));
+    REFUSES(HOMIE5_TOO_LONG, homie5_trace_append(buf, used + 24, used, UINT64_MAX, TEXT("a"), 0, TEXT(""), out, out_len));
+    assert(memcmp(buf, before, len) == 0);
+    free(before);
+}
+
+static void reading(const uint8_t *file, size_t len)
+{
+    ANSWERS(HOMIE5_OK, homie5_trace_check(file, len, out, out_len), 4);
+    REFUSES(HOMIE5_BAD_HEADER, homie5_trace_check(file, len - 1, out, out_len));
+    ANSWERS(HOMIE5_OK, homie5_trace_read(file, len, 0, out, out_len), 4294967290u, 112, 131, 1, 131, 135);
+    ANSWERS(HOMIE5_OK, homie5_trace_next(file, len, 0, out, out_len), 4294967290u, 112, 131, 1, 131, 135, 1);
+    ANSWERS(HOMIE5_OK, homie5_trace_next(file, len, 3, out, out_len), 4294967301u, len - 25, len - 4, 1, len - 4, len, 4);
+    REFUSES(HOMIE5_NO_SUCH_NUMBER, homie5_trace_read(file, len, 4, out, out_len));
+    REFUSES(HOMIE5_NO_SUCH_NUMBER, homie5_trace_next(file, len, 4, out, out_len));
+    REFUSES(HOMIE5_NO_SUCH_NUMBER, homie5_trace_next(file, len, SIZE_MAX, out, out_len));
+    REFUSES(HOMIE5_BAD_HEADER, homie5_trace_next(file, 15, 0, out, out_len));
+}
+
+static void bad_entry(uint8_t *file, size_t len)
+{
+    file[16 + 14] = 2; /* the flags of the first entry */
+    REFUSES(HOMIE5_BAD_ENTRY, homie5_trace_check(file, len, out, out_len));
+    REFUSES(HOMIE5_BAD_ENTRY, homie5_trace_next(file, len, 0, out, out_len));
+    REFUSES(HOMIE5_BAD_ENTRY, homie5_trace_append(file, len, len, UINT64_MAX, TEXT("a"), 0, TEXT(""), out, out_len));
+    file[16 + 14] = 1;
 }
 
 static void topics(void)
 {
-    uint64_t out[HOMIE5_VALUES] = {0};
-    uint64_t two[2] = {0, 9};
-    const char *t = "homie/5/lamp/light/on/set";
-    assert(homie5_topic_read(bytes("homie"), 5, bytes(t), strlen(t), out, HOMIE5_VALUES) == HOMIE5_OK);
-    assert(out[0] == HOMIE5_FORM_SET && out[1] == 8 && out[2] == 12 && out[3] == 13 && out[4] == 18 && out[5] == 19 && out[6] == 21 && out[7] == 0);
-    assert(homie5_topic_read(bytes("homie"), 5, bytes(t), strlen(t), two, 1) == HOMIE5_OK);
-    assert(two[0] == HOMIE5_FORM_SET && two[1] == 9);
-    assert(homie5_topic_read(bytes("other"), 5, bytes(t), strlen(t), two, 2) == HOMIE5_OTHER_DOMAIN && two[0] == HOMIE5_FORM_SET);
+    const char *set = "homie/5/lamp/light/on/set";
+    ANSWERS(HOMIE5_OK, homie5_topic_read(HOMIE, TEXT(set), out, out_len), HOMIE5_FORM_SET, 8, 12, 13, 18, 19, 21);
+    ANSWERS(HOMIE5_OK, homie5_topic_read(HOMIE, TEXT("homie/5/lamp/$state"), out, out_len), HOMIE5_FORM_STATE, 8, 12);
+    ANSWERS(HOMIE5_OK, homie5_topic_read(HOMIE, TEXT("homie/5/a/$log/warn"), out, out_len), HOMIE5_FORM_LOG, 8, 9, 15, 19);
+    ANSWERS(HOMIE5_OK, homie5_topic_read(HOMIE, TEXT("homie/5/a/$b"), out, out_len), HOMIE5_FORM_OTHER, 8, 9, 11, 12, 12, 12);
+    REFUSES(HOMIE5_OTHER_DOMAIN, homie5_topic_read(TEXT("other"), TEXT(set), out, out_len));
+    REFUSES(HOMIE5_NO_FORM, homie5_topic_read(HOMIE, TEXT("homie/5/lamp"), out, out_len));
+    ANSWERS(HOMIE5_OK, homie5_topic_flag(HOMIE, TEXT(set), out, out_len), HOMIE5_FLAG_NOT_RETAINED);
+    ANSWERS(HOMIE5_OK, homie5_topic_flag(HOMIE, TEXT("homie/5/lamp/$state"), out, out_len), HOMIE5_FLAG_RETAINED);
+    ANSWERS(HOMIE5_OK, homie5_topic_flag(HOMIE, TEXT("homie/5/a/$log/warn"), out, out_len), HOMIE5_FLAG_EITHER);
+    ANSWERS(HOMIE5_OK, homie5_topic_flag(HOMIE, TEXT("homie/5/a/b/c"), out, out_len), HOMIE5_FLAG_AS_PROPERTY);
+    REFUSES(HOMIE5_OTHER_DOMAIN, homie5_topic_flag(TEXT(""), TEXT(""), out, out_len));
+    REFUSES(HOMIE5_NO_FORM, homie5_topic_flag(HOMIE, TEXT("homie/5/a/$log/trace"), out, out_len));
+}
+
+static void judgements(void)
+{
+    assert(homie5_payload_judge(HOMIE5_INTEGER, TEXT("2:6:2"), TEXT("1")) == 1);
+    assert(homie5_payload_judge(HOMIE5_INTEGER, TEXT("2:6:2"), TEXT("7")) == 0);
+    assert(homie5_payload_judge(HOMIE5_COLOR, TEXT("rgb"), TEXT("rgb,0,255,1e2")) == 1);
+    assert(homie5_payload_judge(255, TEXT(""), TEXT("[]")) == 1);
+    ANSWERS(1, homie5_datatype_read(TEXT("string"), out, out_len), HOMIE5_STRING);
+    ANSWERS(1, homie5_datatype_read(TEXT("json"), out, out_len), HOMIE5_JSON);
+    REFUSES(0, homie5_datatype_read(TEXT("strings"), out, out_len));
+    REFUSES(0, homie5_datatype_read(TEXT(""), out, out_len));
+    ANSWERS(1, homie5_format_judge(HOMIE5_INTEGER, 0, TEXT(""), out, out_len), HOMIE5_KEPT_COLON);
+    ANSWERS(1, homie5_format_judge(HOMIE5_ENUM, 1, TEXT("a,b"), out, out_len), HOMIE5_KEPT_AS_GIVEN);
+    REFUSES(0, homie5_format_judge(HOMIE5_ENUM, 1, TEXT("a,a"), out, out_len));
+}
+
+static void descriptions(void)
+{
+    const char *child = "{\"version\":-1,\"homie\":\"5.0\",\"root\":\"hub\",\"parent\":\"hall\"}";
+    const char *mode = "{\"homie\":\"5.0\",\"version\":1,\"nodes\":{\"n\":{\"properties\":{\"p\":{\"datatype\":\"enum\",\"format\":\"a,b\",\"settable\":true,"
+                       "\"retained\":false}}}}}";
+    assert(homie5_description_judge(LAMP, TEXT("{}")) == HOMIE5_BAD_DESCRIPTION);
+    assert(homie5_description_judge(LAMP, TEXT(lamp)) == HOMIE5_OK);
+    ANSWERS(HOMIE5_OK, homie5_description_read(LAMP, TEXT(lamp), out, out_len), ((uint64_t)1 << 63) + 1, 0, 0, 0, 0, 1);
+    ANSWERS(HOMIE5_OK, homie5_description_read(LAMP, TEXT(child), out, out_len), ((uint64_t)1 << 63) - 1, 1, 35, 1, 50, 0);
+    REFUSES(HOMIE5_BAD_DESCRIPTION, homie5_description_read(TEXT("hub"), TEXT(child), out, out_len));
+    ANSWERS(HOMIE5_OK, homie5_description_property(LAMP, TEXT(lamp), 0, out, out_len), 36, 59, HOMIE5_BOOLEAN, HOMIE5_KEPT_FALSE_TRUE, 0, 0, 1, 1);
+    ANSWERS(HOMIE5_OK, homie5_description_property(LAMP, TEXT(mode), 0, out, out_len), 36, 55, HOMIE5_ENUM, HOMIE5_KEPT_AS_GIVEN, 1, 87, 1, 0);
+    REFUSES(HOMIE5_NO_SUCH_NUMBER, homie5_description_property(LAMP, TEXT(lamp), 1, out, out_len));
+    REFUSES(HOMIE5_BAD_DESCRIPTION, homie5_description_property(LAMP, TEXT("{}"), 0, out, out_len));
+    assert(homie5_version_number(0) == INT64_MIN && homie5_version_number(UINT64_MAX) == INT64_MAX);
+    assert(homie5_version_number((uint64_t)1 << 63) == 0 && homie5_version_number(((uint64_t)1 << 63) - 1) == -1);
 }
 
 int main(void)
 {
     size_t len = 1024;
     uint8_t *buf = malloc(len);
-    uint64_t out[HOMIE5_VALUES];
     size_t used;
     if (buf == NULL)
         return 1;
-    assert(homie5_trace_empty(buf, 15, out, 1) == HOMIE5_TOO_LONG);
-    assert(homie5_trace_empty(buf, len, out, 1) == HOMIE5_OK && out[0] == 16);
-    used = add(buf, len, 16, 4294967290u, "homie/5/lamp/$state", 1, "init");
-    used = add(buf, len, used, 4294967300u, "homie/5/lamp/$description", 1,
-               "{\"homie\":\"5.0\",\"version\":1,\"nodes\":{\"light\":{\"properties\":{\"on\":{\"datatype\":\"boolean\",\"settable\":true}}}}}");
-    used = add(buf, len, used, 4294967300u, "homie/5/lamp/light/on/set", 0, "true");
-    used = add(buf, len, used, 4294967301u, "homie/5/lamp/light/on", 1, "TRUE");
-    assert(homie5_trace_append(buf, len, used, 1, bytes("a"), 1, 0, bytes(""), 0, out, HOMIE5_VALUES) == HOMIE5_EARLIER);
-    assert(homie5_trace_read(buf, used, 4, out, HOMIE5_VALUES) == HOMIE5_NO_SUCH_NUMBER);
+    memset(buf, 0x5a, len);
+    ANSWERS(HOMIE5_OK, homie5_trace_empty(buf, len, out, out_len), 16);
+    used = write_trace(buf, len);
+    for (size_t i = used; i < len; i++)
+        assert(buf[i] == 0x5a);
+    refused_writing(buf, len, used);
+    reading(buf, used);
+    bad_entry(buf, used);
     topics();
     judgements();
+    descriptions();
     fwrite(buf, 1, used, stdout);
     free(buf);
     return 0;

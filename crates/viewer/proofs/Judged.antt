@@ -11,7 +11,7 @@ use Rattle.payload.specs.Payloads.{isPayload}
 use Rattle.description.specs.declared.Verdict.{Verdict}
 use Rattle.description.specs.declared.Verdict.the-variants.{Taken, Refused}
 use Rattle.description.specs.Meaning.{verdict}
-use Rattle.viewer.specs.Reply.{bit}
+use Rattle.reply.specs.Reply.{bit}
 
 pub yes-bit : (r x : Bool) → r ≡ x → r ≡ true → 1 ≡ bit x
 unfolding bit

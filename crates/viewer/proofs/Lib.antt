@@ -1,3 +1,3 @@
-pub mod Out
 pub mod Judged
 pub mod Read
+pub mod LaneNumbers

@@ -1,4 +1,2 @@
-pub mod Reply
-pub mod Files
-pub mod Judgements
+pub mod Lanes
 pub mod Parts

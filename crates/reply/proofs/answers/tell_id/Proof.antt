@@ -1,0 +1,41 @@
+use mathlib.Core.Path.{ap}
+use Rattle.reply.specs.Answers.{showId}
+use Rattle.reply.proofs.Out.{refusal, reply-as}
+use borrow.Author.Needs.{needs}
+use Rattle.reply.proofs.answers.tell_id.Statement.{statement}
+use Rattle.reply.proofs.answers.tell_id.Tie as tie
+
+enum-known-a : tie.Need-enum-known-a
+enum-known-a c = search needs
+
+enum-known-a-2 : tie.Need-enum-known-a-2
+enum-known-a-2 c = search needs
+
+slice-aggregate-tell : tie.Need-slice-aggregate-tell
+slice-aggregate-tell c = search needs
+
+tell-requires : tie.Need-tell-requires
+tell-requires c κs = search needs
+
+returns : tie.Need-returns
+unfolding showId
+returns c = refusal _ _ _ (ap showId (c .before .a .given .1))
+
+same-length : tie.Need-same-length
+same-length c = search needs
+
+returns-2 : tie.Need-returns-2
+unfolding showId
+returns-2 c = reply-as _ _ _ _ _ (ap showId (c .before .before .before .before .before .before .a2 .given .1)) (c .before .before .tell .ensures)
+
+pub tell-id-spec : {M : Type 1} → statement M
+tell-id-spec =
+    tie.close
+    (tie.spec
+    enum-known-a
+    enum-known-a-2
+    slice-aggregate-tell
+    tell-requires
+    returns
+    same-length
+    returns-2)

@@ -1,0 +1,6 @@
+pub mod Reply
+pub mod Files
+pub mod Judgements
+pub mod Descriptions
+pub mod Answers
+pub mod Parts

@@ -1,0 +1,53 @@
+-- What a call of the interface hands back: a number, and values in a lent array of numbers.
+use Prim.Native.Nat.{ℕ}
+use mathlib.Core.Path.{_≡_}
+use mathlib.Core.Bool.{Bool, not, cond}
+use mathlib.Core.List.{List, [], _++_}
+use lib.Dec.{eqb}
+use lib.ListN.{length, take, drop}
+
+pub record Reply : Type 0 where
+  pub number : ℕ
+  pub values : List ℕ
+
+-- an answer is 0 and its values; "A refusal carries the paper's number for that fault and no part of an answer"
+abbrev pub says : List ℕ → Reply
+says vs = record { number = 0; values = vs }
+
+abbrev pub refuses : ℕ → Reply
+refuses n = record { number = n; values = [] }
+
+-- a judgement is 1 for yes, 0 for no
+abbrev pub yes : List ℕ → Reply
+yes vs = record { number = 1; values = vs }
+
+abbrev pub no : Reply
+no = record { number = 0; values = [] }
+
+unfoldable pub bit : Bool → ℕ
+bit b = cond b 1 0
+
+-- a yes or no that comes as a number: anything but 0 is yes
+abbrev pub isSet : ℕ → Bool
+isSet n = not (eqb n 0)
+
+-- an array with values written to its front: what does not fit is left away, nothing else of the array is altered
+unfoldable pub written : List ℕ → List ℕ → List ℕ
+written vs out = take (length out) (vs ++ drop (length vs) out)
+
+-- a reply x, by the number r and by the array, which was `out` and is out′
+pub record Replied (x : Reply) (out : List ℕ) (r : ℕ) (out′ : List ℕ) : Type 0 where
+  pub number : r ≡ x .number
+  pub array : out′ ≡ written (x .values) out
+
+-- There is an answer that meets the promise of the call below, and the reply is what is shown of it.
+pub record Told {A : Type 0} (Promised : A → Type 0) (shown : A → Reply) (out : List ℕ) (r : ℕ) (out′ : List ℕ) : Type 0 where
+  pub answer : A
+  pub promise : Promised answer
+  pub reply : Replied (shown answer) out r out′
+
+-- The same of a call that hands back a number alone.
+pub record Numbered {A : Type 0} (Promised : A → Type 0) (number : A → ℕ) (r : ℕ) : Type 0 where
+  pub answer : A
+  pub promise : Promised answer
+  pub says : r ≡ number answer

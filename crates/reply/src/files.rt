@@ -1,0 +1,24 @@
+// Trace files.
+ghost use Rattle.reply.specs.Reply.{Replied};
+ghost use Rattle.reply.specs.Files.{showChecked, showWritten};
+use crate::tell_value;
+use trace::Checked;
+use trace::Written;
+
+pub fn tell_checked(out: &mut [u64], a: Checked) -> u8
+    ensures { λ r. ⌜ Replied (showChecked a) (now (out .entry)) r (now (out .exit)) ⌝ }
+{
+    match a {
+        Checked::Refused(k) => k,
+        Checked::Count(n) => tell_value(out, n as u64),
+    }
+}
+
+pub fn tell_written(out: &mut [u64], a: Written) -> u8
+    ensures { λ r. ⌜ Replied (showWritten a) (now (out .entry)) r (now (out .exit)) ⌝ }
+{
+    match a {
+        Written::Refused(k) => k,
+        Written::Length(n) => tell_value(out, n as u64),
+    }
+}

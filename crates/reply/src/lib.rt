@@ -1,0 +1,30 @@
+// What a call of the interface hands back of each answer of the crates below: a number, and values in the lent array `out`.
+ghost use mathlib.Core.List.{_∷_, []};
+ghost use Rattle.reply.specs.Reply.{Replied, says};
+
+pub mod answers;
+pub mod descriptions;
+pub mod files;
+pub mod judgements;
+
+// Writes the values of an answer to the front of `out`, as far as they fit.
+pub fn tell(out: &mut [u64], vs: &[u64]) -> u8
+    ensures { λ r. ⌜ Replied (says (now (vs .entry))) (now (out .entry)) r (now (out .exit)) ⌝ }
+{
+    let mut i: usize = 0;
+    while i < vs.len() {
+        if i >= out.len() {
+            return 0;
+        }
+        out[i] = vs[i];
+        i += 1;
+    }
+    0
+}
+
+fn tell_value(out: &mut [u64], v: u64) -> u8
+    ensures { λ r. ⌜ Replied (says (v ∷ [])) (now (out .entry)) r (now (out .exit)) ⌝ }
+{
+    let vs = [v];
+    tell(out, &vs)
+}

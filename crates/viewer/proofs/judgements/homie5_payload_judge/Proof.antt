@@ -1,0 +1,20 @@
+use Rattle.viewer.proofs.Judged.{judged-yes, judged-no}
+use borrow.Author.Needs.{needs}
+use Rattle.viewer.proofs.judgements.homie5_payload_judge.Statement.{statement}
+use Rattle.viewer.proofs.judgements.homie5_payload_judge.Tie as tie
+
+datatype-at-requires : tie.Need-datatype-at-requires
+datatype-at-requires c κs = search needs
+
+judge-requires : tie.Need-judge-requires
+judge-requires c κs = search needs
+
+returns : tie.Need-returns
+returns c = judged-yes _ _ (c .before .before .before .before .before .args .format .now) (c .before .before .before .before .before .args .payload .now) _ (c .before .before .datatype-at .ensures) (c .before .judge .ensures) (c .if1 .taken)
+
+returns-2 : tie.Need-returns-2
+returns-2 c = judged-no _ _ (c .before .before .before .before .before .args .format .now) (c .before .before .before .before .before .args .payload .now) _ (c .before .before .datatype-at .ensures) (c .before .judge .ensures) (c .if1 .left)
+
+pub homie5-payload-judge-spec : {M : Type 1} → statement M
+homie5-payload-judge-spec =
+    tie.close (tie.spec datatype-at-requires judge-requires returns returns-2)

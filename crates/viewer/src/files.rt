@@ -1,0 +1,105 @@
+// Trace files.
+ghost use mathlib.Core.Path.{_≡_};
+ghost use Rattle.trace.specs.Calls.{meaningChecked, checked, Read, Wrote, emptied, appended, event};
+ghost use Rattle.cursor.specs.Cursor.{Stepped};
+ghost use Rattle.reply.specs.Reply.{Told, Replied, isSet};
+ghost use Rattle.reply.specs.Files.{showChecked, showReading, stepReply, showStep, showWritten};
+ghost use Rattle.viewer.specs.Parts.{Fits};
+use trace::Reading;
+
+// Checks a whole trace: its event count.
+#[no_mangle]
+pub extern "C" fn homie5_trace_check(file: &[u8], out: &mut [u64]) -> u8
+    ensures { λ r. ⌜ Told (λ a. meaningChecked a ≡ checked (now (file .entry))) showChecked (now (out .entry)) r (now (out .exit)) ⌝ }
+{
+    let a = trace::check(file);
+    reply::files::tell_checked(out, a)
+}
+
+fn tell_reading(out: &mut [u64], a: Reading) -> u8
+    requires { ⌜ Fits a ⌝ }
+    ensures { λ r. ⌜ Replied (showReading a) (now (out .entry)) r (now (out .exit)) ⌝ }
+{
+    match a {
+        Reading::Refused(k) => k,
+        Reading::Found(e) => {
+            let retained = e.retained;
+            let vs = [
+                e.time,
+                e.topic as u64,
+                (e.topic + e.tlen) as u64,
+                retained as u64,
+                e.payload as u64,
+                (e.payload + e.plen) as u64,
+            ];
+            reply::tell(out, &vs)
+        }
+    }
+}
+
+// Reads the event of a number, from 0.
+#[no_mangle]
+pub extern "C" fn homie5_trace_read(file: &[u8], i: usize, out: &mut [u64]) -> u8
+    ensures { λ r. ⌜ Told (Read (now (file .entry)) i) showReading (now (out .entry)) r (now (out .exit)) ⌝ }
+{
+    let a = trace::read(file, i);
+    tell_reading(out, a)
+}
+
+fn tell_step(out: &mut [u64], a: Reading, at: usize) -> u8
+    requires { ⌜ Fits a ⌝ }
+    ensures { λ r. ⌜ Replied (stepReply a at) (now (out .entry)) r (now (out .exit)) ⌝ }
+{
+    match a {
+        Reading::Refused(k) => k,
+        Reading::Found(event) => {
+            let retained = event.retained;
+            let vs = [
+                event.time,
+                event.topic as u64,
+                (event.topic + event.tlen) as u64,
+                retained as u64,
+                event.payload as u64,
+                (event.payload + event.plen) as u64,
+                at as u64,
+            ];
+            reply::tell(out, &vs)
+        }
+    }
+}
+
+// Reads the event at a reading place, and where the place is then.
+#[no_mangle]
+pub extern "C" fn homie5_trace_next(file: &[u8], place: usize, out: &mut [u64]) -> u8
+    ensures { λ r. ⌜ Told (Stepped (now (file .entry)) place) showStep (now (out .entry)) r (now (out .exit)) ⌝ }
+{
+    let a = cursor::next_from(file, place);
+    let reading = a.reading;
+    tell_step(out, reading, a.at)
+}
+
+// Writes the empty trace into a lent buffer: its length.
+#[no_mangle]
+pub extern "C" fn homie5_trace_empty(buf: &mut [u8], out: &mut [u64]) -> u8
+    ensures { λ r. ⌜ Told (λ a. Wrote (now (buf .entry)) (emptied (now (buf .entry))) a (now (buf .exit))) showWritten (now (out .entry)) r (now (out .exit)) ⌝ }
+{
+    let a = trace::write_empty(buf);
+    reply::files::tell_written(out, a)
+}
+
+// Appends an event to the trace in the first `used` bytes of a lent buffer: the new length.
+#[no_mangle]
+pub extern "C" fn homie5_trace_append(
+    buf: &mut [u8],
+    used: usize,
+    time: u64,
+    topic: &[u8],
+    retained: u8,
+    payload: &[u8],
+    out: &mut [u64],
+) -> u8
+    ensures { λ r. ⌜ Told (λ a. Wrote (now (buf .entry)) (appended (now (buf .entry)) used (event time (now (topic .entry)) (isSet retained) (now (payload .entry)))) a (now (buf .exit))) showWritten (now (out .entry)) r (now (out .exit)) ⌝ }
+{
+    let a = trace::append(buf, used, time, topic, retained != 0, payload);
+    reply::files::tell_written(out, a)
+}
