@@ -1,0 +1,78 @@
+//! Device descriptions.
+
+use crate::call;
+use crate::payload::{Datatype, Kept};
+use crate::{Property, Refusal};
+
+/// Whether a text is a valid description of the device of the ID `own`. Refuses with `BadDescription`.
+///
+/// ```
+/// use homie5::{description, Refusal};
+///
+/// assert_eq!(description::judge(b"lamp", br#"{"homie":"5.0","version":1}"#), Ok(()));
+/// assert_eq!(description::judge(b"lamp", br#"{"homie":"5.0"}"#), Err(Refusal::BadDescription));
+/// ```
+pub fn judge(own: &[u8], text: &[u8]) -> Result<(), Refusal> {
+    call::description_judge(own, text)
+}
+
+/// What a valid description declares.
+///
+/// ```
+/// use homie5::{description::Description, payload::Datatype, Refusal};
+///
+/// let text = br#"{"homie":"5.0","version":-7,"root":"hall","nodes":{
+///     "light":{"properties":{"on":{"datatype":"boolean","settable":true}}}}}"#;
+/// let lamp = Description::read(b"lamp", text)?;
+/// assert_eq!((lamp.version, lamp.root, lamp.parent), (-7, Some(&b"hall"[..]), None));
+/// assert_eq!(lamp.properties, 1);
+///
+/// let on = lamp.property(0)?;
+/// assert_eq!((on.node, on.id), (&b"light"[..], &b"on"[..]));
+/// assert_eq!((on.datatype, on.format), (Datatype::Boolean, &b"false,true"[..]));
+/// assert!(on.settable && on.retained);
+/// assert_eq!(lamp.property(1), Err(Refusal::NoSuchNumber));
+/// # Ok::<(), Refusal>(())
+/// ```
+#[derive(Clone, Copy, Debug, PartialEq, Eq)]
+pub struct Description<'a> {
+    own: &'a [u8],
+    text: &'a [u8],
+    /// Its version.
+    pub version: i64,
+    /// The ID of the device's root.
+    pub root: Option<&'a [u8]>,
+    /// The ID of the device's parent.
+    pub parent: Option<&'a [u8]>,
+    /// How many properties it declares.
+    pub properties: usize,
+}
+
+impl<'a> Description<'a> {
+    /// Reads a description of the device of the ID `own`. Refuses with `BadDescription`.
+    pub fn read(own: &'a [u8], text: &'a [u8]) -> Result<Description<'a>, Refusal> {
+        let values = call::description_read(own, text)?;
+        Ok(Description {
+            own,
+            text,
+            version: values.version(0),
+            root: values.flag(1).then(|| values.string(2, text)),
+            parent: values.flag(3).then(|| values.string(4, text)),
+            properties: values.size(5),
+        })
+    }
+
+    /// The i-th property, from 0, by node ID, then property ID. Refuses with `NoSuchNumber`.
+    pub fn property(&self, i: usize) -> Result<Property<'a>, Refusal> {
+        let values = call::description_property(self.own, self.text, i)?;
+        let format = if values.flag(4) { values.string(5, self.text) } else { b"" };
+        Ok(Property {
+            node: values.string(0, self.text),
+            id: values.string(1, self.text),
+            datatype: values.one_of(2, Datatype::from_number),
+            format: values.one_of(3, Kept::from_number).of(format),
+            settable: values.flag(6),
+            retained: values.flag(7),
+        })
+    }
+}

@@ -1,0 +1,158 @@
+//! The C interface, call by call: see `include/homie5.h`. The rest of this crate covers it with safe calls.
+
+#![allow(missing_docs)]
+
+extern "C" {
+    pub fn homie5_trace_check(file: *const u8, file_len: usize, out: *mut u64, out_len: usize) -> u8;
+    pub fn homie5_trace_read(file: *const u8, file_len: usize, i: usize, out: *mut u64, out_len: usize) -> u8;
+    pub fn homie5_trace_next(file: *const u8, file_len: usize, place: usize, out: *mut u64, out_len: usize) -> u8;
+    pub fn homie5_trace_empty(buf: *mut u8, buf_len: usize, out: *mut u64, out_len: usize) -> u8;
+    pub fn homie5_trace_append(
+        buf: *mut u8,
+        buf_len: usize,
+        used: usize,
+        time: u64,
+        topic: *const u8,
+        topic_len: usize,
+        retained: u8,
+        payload: *const u8,
+        payload_len: usize,
+        out: *mut u64,
+        out_len: usize,
+    ) -> u8;
+    pub fn homie5_topic_read(
+        domain: *const u8,
+        domain_len: usize,
+        topic: *const u8,
+        topic_len: usize,
+        out: *mut u64,
+        out_len: usize,
+    ) -> u8;
+    pub fn homie5_topic_flag(
+        domain: *const u8,
+        domain_len: usize,
+        topic: *const u8,
+        topic_len: usize,
+        out: *mut u64,
+        out_len: usize,
+    ) -> u8;
+    pub fn homie5_datatype_read(name: *const u8, name_len: usize, out: *mut u64, out_len: usize) -> u8;
+    pub fn homie5_format_judge(
+        datatype: u8,
+        given: u8,
+        format: *const u8,
+        format_len: usize,
+        out: *mut u64,
+        out_len: usize,
+    ) -> u8;
+    pub fn homie5_payload_judge(
+        datatype: u8,
+        format: *const u8,
+        format_len: usize,
+        payload: *const u8,
+        payload_len: usize,
+    ) -> u8;
+    pub fn homie5_description_judge(own: *const u8, own_len: usize, text: *const u8, text_len: usize) -> u8;
+    pub fn homie5_description_read(
+        own: *const u8,
+        own_len: usize,
+        text: *const u8,
+        text_len: usize,
+        out: *mut u64,
+        out_len: usize,
+    ) -> u8;
+    pub fn homie5_description_property(
+        own: *const u8,
+        own_len: usize,
+        text: *const u8,
+        text_len: usize,
+        i: usize,
+        out: *mut u64,
+        out_len: usize,
+    ) -> u8;
+    pub fn homie5_open(
+        mem: *mut u8,
+        mem_len: usize,
+        domain: *const u8,
+        domain_len: usize,
+        devices: usize,
+        depth: usize,
+    ) -> u8;
+    pub fn homie5_message(
+        mem: *mut u8,
+        mem_len: usize,
+        time: u64,
+        topic: *const u8,
+        topic_len: usize,
+        retained: u8,
+        payload: *const u8,
+        payload_len: usize,
+    ) -> u8;
+    pub fn homie5_step_back(mem: *mut u8, mem_len: usize) -> u8;
+    pub fn homie5_count(mem: *const u8, mem_len: usize, out: *mut u64, out_len: usize) -> u8;
+    pub fn homie5_nth(mem: *const u8, mem_len: usize, i: usize, out: *mut u64, out_len: usize) -> u8;
+    pub fn homie5_states(
+        mem: *const u8,
+        mem_len: usize,
+        id: *const u8,
+        id_len: usize,
+        out: *mut u64,
+        out_len: usize,
+    ) -> u8;
+    pub fn homie5_root(
+        mem: *const u8,
+        mem_len: usize,
+        id: *const u8,
+        id_len: usize,
+        out: *mut u64,
+        out_len: usize,
+    ) -> u8;
+    pub fn homie5_parent(
+        mem: *const u8,
+        mem_len: usize,
+        id: *const u8,
+        id_len: usize,
+        out: *mut u64,
+        out_len: usize,
+    ) -> u8;
+    pub fn homie5_version(
+        mem: *const u8,
+        mem_len: usize,
+        id: *const u8,
+        id_len: usize,
+        out: *mut u64,
+        out_len: usize,
+    ) -> u8;
+    pub fn homie5_filled(
+        mem: *const u8,
+        mem_len: usize,
+        id: *const u8,
+        id_len: usize,
+        out: *mut u64,
+        out_len: usize,
+    ) -> u8;
+    pub fn homie5_property(
+        mem: *const u8,
+        mem_len: usize,
+        id: *const u8,
+        id_len: usize,
+        i: usize,
+        out: *mut u64,
+        out_len: usize,
+    ) -> u8;
+    pub fn homie5_lane(
+        mem: *const u8,
+        mem_len: usize,
+        id: *const u8,
+        id_len: usize,
+        node: *const u8,
+        node_len: usize,
+        property: *const u8,
+        property_len: usize,
+        kind: u8,
+        out: *mut u64,
+        out_len: usize,
+    ) -> u8;
+    pub fn homie5_last(mem: *const u8, mem_len: usize, out: *mut u64, out_len: usize) -> u8;
+    pub fn homie5_steps(mem: *const u8, mem_len: usize, out: *mut u64, out_len: usize) -> u8;
+}

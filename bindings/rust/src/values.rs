@@ -1,0 +1,81 @@
+//! The values of an answer, read as what they stand for.
+
+use crate::Refusal;
+
+/// The most values that an answer has.
+const VALUES: usize = 9;
+
+/// The values of one answer; those that it does not have are 0.
+pub struct Values([u64; VALUES]);
+
+/// Makes a call, with room for every value: the values of its answer, or the refusal.
+pub fn ask(call: impl FnOnce(&mut [u64]) -> u8) -> Result<Values, Refusal> {
+    let mut values = [0; VALUES];
+    taken(call(&mut values))?;
+    Ok(Values(values))
+}
+
+/// Makes a judgement, with room for every value: the values of a yes.
+pub fn judge(call: impl FnOnce(&mut [u64]) -> u8) -> Option<Values> {
+    let mut values = [0; VALUES];
+    yes(call(&mut values)).then_some(Values(values))
+}
+
+/// What a call says that returned this number: 0, or a refusal.
+pub fn taken(number: u8) -> Result<(), Refusal> {
+    match number {
+        0 => Ok(()),
+        _ => Err(known(u64::from(number), Refusal::from_number)),
+    }
+}
+
+/// What a judgement says that returned this number.
+pub fn yes(number: u8) -> bool {
+    number != 0
+}
+
+/// What a number stands for. The header names every number: another one would be a fault of the library.
+fn known<T>(number: u64, from_number: impl Fn(u8) -> Option<T>) -> T {
+    match u8::try_from(number).ok().and_then(from_number) {
+        Some(one) => one,
+        None => panic!("the library answered {number}, which stands for nothing"),
+    }
+}
+
+impl Values {
+    /// The number that stands here.
+    pub fn number(&self, at: usize) -> u64 {
+        self.0[at]
+    }
+
+    /// A count, or a place in memory.
+    pub fn size(&self, at: usize) -> usize {
+        usize::try_from(self.0[at]).expect("the library counts what lies in memory")
+    }
+
+    /// Yes or no.
+    pub fn flag(&self, at: usize) -> bool {
+        self.0[at] != 0
+    }
+
+    /// A version, which stands plus 2^63.
+    pub fn version(&self, at: usize) -> i64 {
+        self.0[at].wrapping_sub(1 << 63) as i64
+    }
+
+    /// One of a list.
+    pub fn one_of<T>(&self, at: usize, from_number: impl Fn(u8) -> Option<T>) -> T {
+        known(self.0[at], from_number)
+    }
+
+    /// The bytes from the place that stands here to the place behind it.
+    pub fn part<'a>(&self, at: usize, bytes: &'a [u8]) -> &'a [u8] {
+        &bytes[self.size(at)..self.size(at + 1)]
+    }
+
+    /// The string of a JSON text whose opening quote stands here, up to the next quote.
+    pub fn string<'a>(&self, at: usize, text: &'a [u8]) -> &'a [u8] {
+        let inside = &text[self.size(at) + 1..];
+        inside.split(|&byte| byte == b'"').next().unwrap_or(inside)
+    }
+}

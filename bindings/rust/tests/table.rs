@@ -1,0 +1,168 @@
+//! The table: openings, refusals, steps back, damaged memory.
+
+mod common;
+
+use common::{declared, event, DESCRIPTION, LATE, LATEST};
+use homie5::table::{Held, Lane, State, States, Table};
+use homie5::trace::Event;
+use homie5::Refusal;
+
+/// A table with one device, described, all lanes empty.
+fn lamp(depth: usize) -> Table {
+    let mut table = Table::open(b"homie", 2, depth).unwrap();
+    table.message(&event(LATE, "homie/5/lamp/$state", true, "ready")).unwrap();
+    table.message(&event(LATE, "homie/5/lamp/$description", true, DESCRIPTION)).unwrap();
+    table
+}
+
+#[test]
+fn tables_answer_what_descriptions_declare() {
+    let mut table = lamp(0);
+    assert_eq!(table.properties(b"lamp").collect::<Vec<_>>(), declared());
+    assert_eq!(table.root(b"lamp"), Ok(Some(&b"hub"[..])));
+    assert_eq!(table.parent(b"lamp"), Ok(Some(&b"hall"[..])));
+    assert_eq!(table.version(b"lamp"), Ok(Some(i64::MIN)));
+    assert_eq!(table.property(b"lamp", 3), Err(Refusal::NoSuchNumber));
+    table.message(&event(LATE, "homie/5/lamp/$description", true, "")).unwrap();
+    assert_eq!(table.properties(b"lamp").count(), 0);
+    assert_eq!((table.root(b"lamp"), table.parent(b"lamp"), table.version(b"lamp")), (Ok(None), Ok(None), Ok(None)));
+}
+
+#[test]
+fn lanes_hold_64_bits_of_time() {
+    let mut table = lamp(4);
+    table.message(&event(LATE + 1, "homie/5/lamp/a/on", true, "true")).unwrap();
+    table.message(&event(LATE + 2, "homie/5/lamp/a/on/$target", true, "false")).unwrap();
+    table.message(&event(LATEST, "homie/5/lamp/a/on/set", false, "true")).unwrap();
+    let lane = |lane| table.lane(b"lamp", b"a", b"on", lane).unwrap();
+    assert_eq!(lane(Lane::Value), Some(Held { time: LATE + 1, payload: b"true" }));
+    assert_eq!(lane(Lane::Target), Some(Held { time: LATE + 2, payload: b"false" }));
+    assert_eq!(lane(Lane::Asked), Some(Held { time: LATEST, payload: b"true" }));
+    assert_eq!((table.filled(b"lamp"), table.last()), (Ok(1), Some(LATEST)));
+    assert_eq!(table.states(b"lamp"), Ok(States { own: State::Ready, effective: State::Ready, time: LATE }));
+}
+
+#[test]
+fn refused_messages_alter_nothing() {
+    let mut table = lamp(3);
+    table.message(&event(LATE, "homie/5/plug/$state", true, "ready")).unwrap();
+    let refused = [
+        (event(LATE - 1, "homie/5/lamp/a/on", true, "true"), Refusal::Earlier),
+        (event(LATE, "other/5/lamp/a/on", true, "true"), Refusal::OtherDomain),
+        (event(LATE, "homie/5/lamp/a", true, "true"), Refusal::NoForm),
+        (Event { payload: b"\xff", ..event(LATE, "homie/5/lamp/a/on", true, "") }, Refusal::NotUtf8),
+        (event(LATE, "homie/5/lamp/a/on/set", true, "true"), Refusal::WrongFlag),
+        (event(LATE, "homie/5/fan/a/on", true, "true"), Refusal::NoDevice),
+        (event(LATE, "homie/5/fan/$state", true, "ready"), Refusal::Full),
+        (event(LATE, "homie/5/lamp/a/on", true, "TRUE"), Refusal::BadPayload),
+        (event(LATE, "homie/5/lamp/$description", true, "{}"), Refusal::BadDescription),
+        (event(LATE, "homie/5/lamp/a/off", true, "true"), Refusal::NoProperty),
+        (event(LATE, "homie/5/lamp/b/mode/set", false, "low"), Refusal::NotSettable),
+    ];
+    let before = table.as_bytes().to_vec();
+    for (event, refusal) in refused {
+        assert_eq!(table.message(&event), Err(refusal));
+        assert!(table.as_bytes() == before, "{refusal}");
+    }
+}
+
+#[test]
+fn steps_back_to_the_empty_table() {
+    let mut table = lamp(64);
+    table.message(&event(LATE + 1, "homie/5/lamp/a/on", true, "true")).unwrap();
+    assert_eq!(table.steps(), 3);
+    table.step_back().unwrap();
+    assert_eq!(table.lane(b"lamp", b"a", b"on", Lane::Value), Ok(None));
+    table.step_back().unwrap();
+    assert_eq!(table.lane(b"lamp", b"a", b"on", Lane::Value), Err(Refusal::NoProperty));
+    table.step_back().unwrap();
+    assert_eq!(table.states(b"lamp"), Err(Refusal::NoDevice));
+    assert_eq!((table.count(), table.devices().count(), table.last(), table.steps()), (0, 0, None, 0));
+    let before = table.as_bytes().to_vec();
+    assert_eq!(table.step_back(), Err(Refusal::NoStep));
+    assert!(table.as_bytes() == before);
+}
+
+#[test]
+fn openings() {
+    let size = |devices, depth| Table::open(b"homie", devices, depth).map(|table| table.into_bytes().len());
+    assert_eq!(size(1, 0), Ok(16_384));
+    assert_eq!(size(64, 64), Ok(1_056_768));
+    for (devices, depth) in [(0, 0), (65, 0), (1, 65), (usize::MAX, usize::MAX), (usize::MAX, 0), (1, usize::MAX)] {
+        assert_eq!(size(devices, depth), Err(Refusal::BadOpening));
+    }
+    for domain in [&b""[..], b"Homie", &[b'a'; 33]] {
+        assert_eq!(Table::open(domain, 1, 0).err(), Some(Refusal::BadOpening));
+    }
+    assert!(Table::open(&[b'a'; 32], 1, 0).is_ok());
+}
+
+#[test]
+fn the_largest_table_fills_and_empties() {
+    let mut table = Table::open(b"homie", 64, 64).unwrap();
+    let topics: Vec<_> = (0..64).map(|i| format!("homie/5/d{i:02}/$state")).collect();
+    for (time, topic) in (LATE..).zip(topics.iter().rev()) {
+        table.message(&event(time, topic, true, "init")).unwrap();
+    }
+    let new = event(LATEST, "homie/5/d64/$state", true, "init");
+    assert_eq!((table.count(), table.steps(), table.message(&new)), (64, 64, Err(Refusal::Full)));
+    assert!(table.devices().zip(&topics).all(|(id, topic)| id == &topic.as_bytes()[8..11]));
+    assert_eq!(table.nth(64), Err(Refusal::NoSuchNumber));
+    for left in (0..64).rev() {
+        table.step_back().unwrap();
+        assert_eq!((table.count(), table.steps()), (left, left));
+    }
+}
+
+#[test]
+fn tables_kept_as_bytes() {
+    let mut table = Table::from_bytes(lamp(2).into_bytes()).unwrap();
+    assert_eq!((table.count(), table.steps(), table.version(b"lamp")), (1, 2, Ok(Some(i64::MIN))));
+    assert_eq!(format!("{table:?}"), "Table { devices: 1, steps: 2, .. }");
+    let copy = table.clone();
+    table.step_back().unwrap();
+    assert_eq!((copy.version(b"lamp"), table.version(b"lamp")), (Ok(Some(i64::MIN)), Ok(None)));
+}
+
+#[test]
+fn damaged_memory_is_refused_or_answers() {
+    let whole = lamp(2).into_bytes();
+    for memory in [vec![], vec![0; 16_384], vec![255; 40_960], whole[..whole.len() - 1].to_vec()] {
+        assert_eq!(Table::from_bytes(memory).err(), Some(Refusal::NotSound));
+    }
+    let mut refused = 0;
+    for at in (0..whole.len()).step_by(7) {
+        let mut memory = whole.clone();
+        memory[at] ^= 0x55;
+        match Table::from_bytes(memory) {
+            Ok(table) => use_up(table),
+            Err(refusal) => {
+                assert_eq!(refusal, Refusal::NotSound);
+                refused += 1;
+            }
+        }
+    }
+    assert!(refused > 0);
+}
+
+/// Sends a message, then steps back as far as it goes, and asks everything at each place.
+fn use_up(mut table: Table) {
+    let _ = table.message(&event(LATEST, "homie/5/lamp/a/on", true, "true"));
+    questions(&table);
+    while table.step_back().is_ok() {
+        questions(&table);
+    }
+}
+
+/// Asks everything; what is answered is not looked at.
+fn questions(table: &Table) {
+    for id in table.devices() {
+        let _ = (table.states(id), table.root(id), table.parent(id), table.version(id), table.filled(id));
+        for property in table.properties(id) {
+            for lane in Lane::ALL {
+                let _ = table.lane(id, property.node, property.id, *lane);
+            }
+        }
+    }
+    let _ = (table.last(), table.steps());
+}
