@@ -51,7 +51,7 @@ pub struct Lane {
 /// The three lanes of a property; none is an empty lane.
 type Lanes = [Option<Lane>; 3];
 
-#[derive(Clone, Debug)]
+#[derive(Clone, Debug, PartialEq, Eq)]
 pub struct Device {
     pub state: &'static str,
     pub state_time: u64,
@@ -85,23 +85,23 @@ impl Device {
 }
 
 /// What a list of messages makes.
-#[derive(Clone, Debug)]
+#[derive(Clone, Debug, PartialEq, Eq)]
 pub struct Table {
     domain: Vec<u8>,
     device_limit: usize,
-    devices: BTreeMap<Vec<u8>, Device>,
-    last_time: Option<u64>,
+    pub devices: BTreeMap<Vec<u8>, Device>,
+    pub last_time: Option<u64>,
 }
 
 // Messages
 
 impl Table {
-    fn new(domain: &[u8], device_limit: usize) -> Table {
+    pub fn new(domain: &[u8], device_limit: usize) -> Table {
         Table { domain: domain.to_vec(), device_limit, devices: BTreeMap::new(), last_time: None }
     }
 
     /// Takes a message, or refuses it and changes nothing.
-    fn take(&mut self, message: &Message) -> Result<(), Refusal> {
+    pub fn take(&mut self, message: &Message) -> Result<(), Refusal> {
         if self.last_time.is_some_and(|last| message.time < last) {
             return Err(TIME);
         }

@@ -53,7 +53,7 @@ impl House {
         message
     }
 
-    fn time(&self, random: &mut Random, table: &Table) -> u64 {
+    pub fn time(&self, random: &mut Random, table: &Table) -> u64 {
         let last = table.last_time().unwrap_or(self.start);
         if random.once_in(40) {
             return last.saturating_sub(1);
@@ -61,7 +61,7 @@ impl House {
         last.saturating_add(random.pick(&[0, 0, 1, 1, 7]))
     }
 
-    fn state(&self, random: &mut Random) -> Message {
+    pub fn state(&self, random: &mut Random) -> Message {
         let hub = random.once_in(3);
         let id = if hub { self.ids[0].clone() } else { random.pick(&self.ids) };
         let payload = match random.below(12) {
@@ -78,13 +78,13 @@ impl House {
     }
 
     /// A device goes, or loses its description.
-    fn removal(&self, random: &mut Random, table: &Table) -> Message {
+    pub fn removal(&self, random: &mut Random, table: &Table) -> Message {
         let id = self.device(random, table);
         let word = random.pick(&[&b"$state"[..], b"$state", b"$description"]);
         message(self.topic(&[&id, word]), true, Vec::new())
     }
 
-    fn describing(&self, random: &mut Random, table: &Table) -> Message {
+    pub fn describing(&self, random: &mut Random, table: &Table) -> Message {
         let id = self.device(random, table);
         let plan = Plan { own: &id, others: &self.ids, fault: 400 };
         let full = self.large && random.once_in(3);
@@ -102,7 +102,7 @@ impl House {
     }
 
     /// Alerts, logs, broadcasts and others.
-    fn passing(&self, random: &mut Random, table: &Table) -> Message {
+    pub fn passing(&self, random: &mut Random, table: &Table) -> Message {
         let id = self.device(random, table);
         let rest: Vec<&[u8]> = match random.below(5) {
             0 => vec![&id, b"$alert", b"low"],
@@ -117,7 +117,7 @@ impl House {
     }
 
     /// A value, target or set, mostly of a property that is there.
-    fn of_property(&self, random: &mut Random, table: &Table) -> Message {
+    pub fn of_property(&self, random: &mut Random, table: &Table) -> Message {
         let id = self.device(random, table);
         let properties = table.device(&id).map_or(&[][..], |device| device.properties());
         if properties.is_empty() && !random.once_in(4) {
@@ -158,7 +158,7 @@ fn message(topic: Vec<u8>, retained: bool, payload: Vec<u8>) -> Message {
 }
 
 /// Now and then a wrong flag, a damaged topic or payload.
-fn damage(random: &mut Random, message: &mut Message) {
+pub fn damage(random: &mut Random, message: &mut Message) {
     match random.below(90) {
         0..=2 => message.retained = !message.retained,
         3 | 4 => message.topic = edit(random, &message.topic),

@@ -5,16 +5,16 @@
 //! fewer lines than asked for.
 
 mod calls;
-mod descriptions;
-mod edits;
+pub mod descriptions;
+pub mod edits;
 mod floats;
 mod judge;
-mod messages;
-mod payloads;
+pub mod messages;
+pub mod payloads;
 mod replay;
-mod texts;
-mod topics;
-mod traces;
+pub mod texts;
+pub mod topics;
+pub mod traces;
 
 use crate::random::Random;
 

@@ -1,0 +1,74 @@
+//! How often each call was answered with each number.
+
+use crate::watch;
+use std::collections::BTreeMap;
+
+/// What every part of the tests answers: nothing, or what differs.
+pub type Outcome = Result<(), String>;
+
+#[derive(Default)]
+pub struct Tally {
+    pub calls: u64,
+    answers: BTreeMap<(&'static str, u8), u64>,
+    /// Where the watch looks.
+    slot: usize,
+}
+
+/// The numbers that each call can answer. Each must occur in a whole run.
+pub const LEGAL: [(&str, &[u8]); 27] = [
+    ("trace_check", &[0, 1, 2]),
+    ("trace_read", &[0, 1, 2, 3]),
+    ("trace_next", &[0, 1, 2, 3]),
+    ("trace_empty", &[0, 4]),
+    ("trace_append", &[0, 1, 2, 4, 7, 9]),
+    ("topic_read", &[0, 8, 9]),
+    ("topic_flag", &[0, 8, 9]),
+    ("datatype_read", &[0, 1]),
+    ("format_judge", &[0, 1]),
+    ("payload_judge", &[0, 1]),
+    ("description_judge", &[0, 15]),
+    ("description_read", &[0, 15]),
+    ("description_property", &[0, 3, 15]),
+    ("open", &[0, 5]),
+    ("message", &[0, 6, 7, 8, 9, 10, 11, 12, 13, 14, 15, 16, 17]),
+    ("step_back", &[0, 6, 18]),
+    ("count", &[0, 6]),
+    ("nth", &[0, 3, 6]),
+    ("states", &[0, 6, 12]),
+    ("root", &[0, 6, 12]),
+    ("parent", &[0, 6, 12]),
+    ("version", &[0, 6, 12]),
+    ("filled", &[0, 6, 12]),
+    ("property", &[0, 3, 6, 12]),
+    ("lane", &[0, 6, 12, 16]),
+    ("last", &[0, 6]),
+    ("steps", &[0, 6]),
+];
+
+pub fn is_legal(call: &str, number: u8) -> bool {
+    LEGAL.iter().any(|(name, numbers)| *name == call && numbers.contains(&number))
+}
+
+impl Tally {
+    pub fn new(slot: usize) -> Tally {
+        Tally { slot, ..Tally::default() }
+    }
+
+    /// One more call is made, and its answer is known.
+    pub fn count(&mut self, call: &'static str, number: u8) {
+        self.calls += 1;
+        watch::moved(self.slot, self.calls);
+        *self.answers.entry((call, number)).or_default() += 1;
+    }
+
+    pub fn add(&mut self, other: Tally) {
+        self.calls += other.calls;
+        for (key, times) in other.answers {
+            *self.answers.entry(key).or_default() += times;
+        }
+    }
+
+    pub fn times(&self, call: &'static str, number: u8) -> u64 {
+        self.answers.get(&(call, number)).copied().unwrap_or(0)
+    }
+}
