@@ -1,0 +1,144 @@
+//! The C interface, called with slices.
+
+use homie5::sys;
+use reference::trace::Event;
+
+/// The most values of an answer.
+pub type Values = [u64; 9];
+
+pub fn room(devices: usize, depth: usize) -> usize {
+    8192 * (devices + depth + 1)
+}
+
+pub fn open(mem: &mut [u8], domain: &[u8], devices: usize, depth: usize) -> u8 {
+    unsafe { sys::homie5_open(mem.as_mut_ptr(), mem.len(), domain.as_ptr(), domain.len(), devices, depth) }
+}
+
+pub fn message(mem: &mut [u8], event: &Event) -> u8 {
+    let (topic, payload) = (&event.topic, &event.payload);
+    unsafe {
+        sys::homie5_message(
+            mem.as_mut_ptr(),
+            mem.len(),
+            event.time,
+            topic.as_ptr(),
+            topic.len(),
+            u8::from(event.retained),
+            payload.as_ptr(),
+            payload.len(),
+        )
+    }
+}
+
+pub fn step_back(mem: &mut [u8]) -> u8 {
+    unsafe { sys::homie5_step_back(mem.as_mut_ptr(), mem.len()) }
+}
+
+pub fn check(file: &[u8], out: &mut Values) -> u8 {
+    unsafe { sys::homie5_trace_check(file.as_ptr(), file.len(), out.as_mut_ptr(), out.len()) }
+}
+
+pub fn read(file: &[u8], i: usize, out: &mut Values) -> u8 {
+    unsafe { sys::homie5_trace_read(file.as_ptr(), file.len(), i, out.as_mut_ptr(), out.len()) }
+}
+
+pub fn next(file: &[u8], place: usize, out: &mut Values) -> u8 {
+    unsafe { sys::homie5_trace_next(file.as_ptr(), file.len(), place, out.as_mut_ptr(), out.len()) }
+}
+
+pub fn append(buffer: &mut [u8], used: usize, event: &Event, out: &mut Values) -> u8 {
+    let (topic, payload) = (&event.topic, &event.payload);
+    unsafe {
+        sys::homie5_trace_append(
+            buffer.as_mut_ptr(),
+            buffer.len(),
+            used,
+            event.time,
+            topic.as_ptr(),
+            topic.len(),
+            u8::from(event.retained),
+            payload.as_ptr(),
+            payload.len(),
+            out.as_mut_ptr(),
+            out.len(),
+        )
+    }
+}
+
+pub fn topic(domain: &[u8], topic: &[u8], out: &mut Values) -> u8 {
+    let (at, len) = (out.as_mut_ptr(), out.len());
+    unsafe { sys::homie5_topic_read(domain.as_ptr(), domain.len(), topic.as_ptr(), topic.len(), at, len) }
+}
+
+pub fn payload(datatype: u8, format: &[u8], payload: &[u8]) -> u8 {
+    unsafe { sys::homie5_payload_judge(datatype, format.as_ptr(), format.len(), payload.as_ptr(), payload.len()) }
+}
+
+pub fn description(own: &[u8], text: &[u8]) -> u8 {
+    unsafe { sys::homie5_description_judge(own.as_ptr(), own.len(), text.as_ptr(), text.len()) }
+}
+
+pub fn count(mem: &[u8], out: &mut Values) -> u8 {
+    unsafe { sys::homie5_count(mem.as_ptr(), mem.len(), out.as_mut_ptr(), out.len()) }
+}
+
+pub fn last(mem: &[u8], out: &mut Values) -> u8 {
+    unsafe { sys::homie5_last(mem.as_ptr(), mem.len(), out.as_mut_ptr(), out.len()) }
+}
+
+pub fn steps(mem: &[u8], out: &mut Values) -> u8 {
+    unsafe { sys::homie5_steps(mem.as_ptr(), mem.len(), out.as_mut_ptr(), out.len()) }
+}
+
+pub fn nth(mem: &[u8], i: usize, out: &mut Values) -> u8 {
+    unsafe { sys::homie5_nth(mem.as_ptr(), mem.len(), i, out.as_mut_ptr(), out.len()) }
+}
+
+type OfDevice = unsafe extern "C" fn(*const u8, usize, *const u8, usize, *mut u64, usize) -> u8;
+
+/// A question about a device named by its ID.
+fn of_device(call: OfDevice, mem: &[u8], id: &[u8], out: &mut Values) -> u8 {
+    unsafe { call(mem.as_ptr(), mem.len(), id.as_ptr(), id.len(), out.as_mut_ptr(), out.len()) }
+}
+
+pub fn states(mem: &[u8], id: &[u8], out: &mut Values) -> u8 {
+    of_device(sys::homie5_states, mem, id, out)
+}
+
+pub fn root(mem: &[u8], id: &[u8], out: &mut Values) -> u8 {
+    of_device(sys::homie5_root, mem, id, out)
+}
+
+pub fn parent(mem: &[u8], id: &[u8], out: &mut Values) -> u8 {
+    of_device(sys::homie5_parent, mem, id, out)
+}
+
+pub fn version(mem: &[u8], id: &[u8], out: &mut Values) -> u8 {
+    of_device(sys::homie5_version, mem, id, out)
+}
+
+pub fn filled(mem: &[u8], id: &[u8], out: &mut Values) -> u8 {
+    of_device(sys::homie5_filled, mem, id, out)
+}
+
+pub fn property(mem: &[u8], id: &[u8], i: usize, out: &mut Values) -> u8 {
+    unsafe { sys::homie5_property(mem.as_ptr(), mem.len(), id.as_ptr(), id.len(), i, out.as_mut_ptr(), out.len()) }
+}
+
+pub fn lane(mem: &[u8], id: &[u8], node: &[u8], property: &[u8], kind: u8, out: &mut Values) -> u8 {
+    unsafe {
+        sys::homie5_lane(
+            mem.as_ptr(),
+            mem.len(),
+            id.as_ptr(),
+            id.len(),
+            node.as_ptr(),
+            node.len(),
+            property.as_ptr(),
+            property.len(),
+            kind,
+            out.as_mut_ptr(),
+            out.len(),
+        )
+    }
+}

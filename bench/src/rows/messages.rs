@@ -1,0 +1,172 @@
+//! Messages of each kind, and steps back.
+
+use crate::data::*;
+use crate::house::{ours_of, reference_of};
+use crate::measure::{batches, batches_after, Calls, Row, Sides, Unit};
+use crate::ours;
+use reference::refusal::*;
+use reference::trace::Event;
+
+#[derive(Clone)]
+enum Action {
+    Message(Event),
+    Back,
+}
+use Action::{Back, Message};
+
+/// What is measured over and over: the actions before are not timed; the timed ones are all answered so.
+#[derive(Clone)]
+struct Feed {
+    before: Vec<Action>,
+    timed: Vec<Action>,
+    answer: u8,
+}
+
+pub fn rows() -> Vec<Row> {
+    let depths = [0, 64].into_iter().flat_map(|depth| kinds().map(move |(name, feed)| message_row(name, depth, feed)));
+    depths.chain(back_rows()).collect()
+}
+
+fn message_row(name: &str, depth: usize, feed: fn() -> Feed) -> Row {
+    Row::new(format!("{name}, J {depth}"), Unit::Call, move || sides(depth, &feed()))
+}
+
+fn back_rows() -> Vec<Row> {
+    let row = |name: &str, feed: fn() -> Feed| Row::new(name, Unit::Call, move || sides(64, &feed()));
+    vec![
+        row("step back over a value", || backwards(values("level", ""))),
+        row("step back over a state", || backwards(each(|id| state(id, "sleeping")))),
+        row("step back over a description", || backwards(each(|id| describe(id, &description(id))))),
+        row("step back over a removal", || backwards(each(|id| state(id, "")))),
+        row("value and step back, both", both),
+    ]
+}
+
+fn sides(depth: usize, feed: &Feed) -> Sides {
+    Sides { ours: ours_calls(depth, feed.clone()), reference: reference_calls(depth, feed.clone()), limit: None }
+}
+
+fn feeding<T: 'static>(table: T, feed: Feed, act: fn(&mut T, &Action) -> u8) -> Calls {
+    let batch = feed.timed.len();
+    let before = move |(table, feed): &mut (T, Feed)| {
+        for action in &feed.before {
+            assert_eq!(act(table, action), 0);
+        }
+    };
+    let work = move |(table, feed): &mut (T, Feed)| {
+        for action in &feed.timed {
+            assert_eq!(act(table, action), feed.answer);
+        }
+    };
+    if feed.before.is_empty() {
+        batches((table, feed), batch, work)
+    } else {
+        batches_after((table, feed), batch, before, work)
+    }
+}
+
+fn ours_calls(depth: usize, feed: Feed) -> Calls {
+    feeding(ours_of(depth), feed, |mem, action| match action {
+        Message(event) => ours::message(mem, event),
+        Back => ours::step_back(mem),
+    })
+}
+
+fn reference_calls(depth: usize, feed: Feed) -> Calls {
+    feeding(reference_of(depth), feed, |table, action| match action {
+        Message(event) => table.message(event).err().unwrap_or(0),
+        Back => table.step_back().err().unwrap_or(0),
+    })
+}
+
+fn each(make: fn(&str) -> Event) -> Vec<Action> {
+    ids().iter().map(|id| Message(make(id))).collect()
+}
+
+fn taken(timed: Vec<Action>) -> Feed {
+    Feed { before: Vec::new(), timed, answer: 0 }
+}
+
+fn refused(answer: u8, timed: Vec<Action>) -> Feed {
+    Feed { before: Vec::new(), timed, answer }
+}
+
+fn after(before: Vec<Action>, timed: Vec<Action>) -> Feed {
+    Feed { before, timed, answer: 0 }
+}
+
+/// To a property of every device, first the one payload, then the other.
+fn values(id: &str, last: &str) -> Vec<Action> {
+    let sample = property(id);
+    let of = |payload: &str| -> Vec<Action> {
+        ids().iter().map(|id| Message(to_property(id, sample, last, payload))).collect()
+    };
+    sample.payloads.map(of).concat()
+}
+
+/// Every fourth device, made or removed while the others stay.
+fn some(make: fn(&str) -> Event) -> Vec<Action> {
+    ids().iter().step_by(4).map(|id| Message(make(id))).collect()
+}
+
+fn backwards(messages: Vec<Action>) -> Feed {
+    let before: Vec<Action> = messages.into_iter().take(64).collect();
+    let timed = vec![Back; before.len()];
+    after(before, timed)
+}
+
+fn both() -> Feed {
+    taken(values("level", "").into_iter().flat_map(|action| [action, Back]).collect())
+}
+
+fn restored(id: &str) -> Vec<Action> {
+    vec![Message(state(id, "ready")), Message(describe(id, &description(id)))]
+}
+
+type Kind = (&'static str, fn() -> Feed);
+
+fn kinds() -> [Kind; 27] {
+    [
+        ("state, new device", || after(some(|id| state(id, "")), some(|id| state(id, "init")))),
+        ("state, device removed", || {
+            after(ids().iter().step_by(4).flat_map(|id| restored(id)).collect(), some(|id| state(id, "")))
+        }),
+        ("state, updated", || taken([each(|id| state(id, "sleeping")), each(|id| state(id, "ready"))].concat())),
+        ("description, 12 properties", || taken(each(|id| describe(id, &description(id))))),
+        ("description, 24 properties in 8 KB", || taken(each(|id| describe(id, &long_description(id))))),
+        ("description, emptied", || after(each(|id| describe(id, &description(id))), each(|id| describe(id, "")))),
+        ("value, boolean", || taken(values("on", ""))),
+        ("value, integer in a range", || taken(values("humidity", ""))),
+        ("value, integer in a range with a step", || taken(values("level", ""))),
+        ("value, float in a range", || taken(values("temperature", ""))),
+        ("value, enum", || taken(values("mode", ""))),
+        ("value, color", || taken(values("color", ""))),
+        ("value, string", || taken(values("label", ""))),
+        ("value, json", || taken(values("status", ""))),
+        ("value, emptied", || after(values("on", ""), each(|id| to_property(id, property("on"), "", "")))),
+        ("target", || taken(values("level", "/$target"))),
+        ("set", || taken(values("level", "/set"))),
+        ("alert", || taken(each(|id| event(&format!("{id}/$alert/battery"), true, "Battery is low")))),
+        ("log", || taken(each(|id| event(&format!("{id}/$log/info"), false, "connected to the broker again")))),
+        ("broadcast", || taken(each(|_| event("$broadcast/security/alarm", false, "Intruder detected")))),
+        ("other", || taken(each(|id| event(&format!("{id}/$fw/version"), true, "2.1.0")))),
+        ("refused 7: earlier", || {
+            let early = |id: &str| Event { time: NOW - 1, ..to_property(id, property("on"), "", "true") };
+            refused(TIME, each(early))
+        }),
+        ("refused 11: wrong flag", || {
+            let wrong = |id: &str| Event { retained: false, ..to_property(id, property("on"), "", "true") };
+            refused(FLAG, each(wrong))
+        }),
+        ("refused 12: no such device", || {
+            refused(NO_DEVICE, each(|id| to_property(&format!("{id}-x"), property("on"), "", "true")))
+        }),
+        ("refused 14: payload", || refused(PAYLOAD, each(|id| to_property(id, property("level"), "", "1000")))),
+        ("refused 16: no such property", || {
+            refused(NO_PROPERTY, each(|id| event(&format!("{id}/system/on"), true, "true")))
+        }),
+        ("refused 17: not settable", || {
+            refused(NOT_SETTABLE, each(|id| to_property(id, property("humidity"), "/set", "41")))
+        }),
+    ]
+}

@@ -1,0 +1,140 @@
+//! Every question, at D 64.
+
+use crate::data::{ids, PROPERTIES};
+use crate::house::{ours_of, reference_of};
+use crate::measure::{batches, Row, Sides, Unit};
+use crate::ours::{self, Values};
+use crate::undo::Table;
+use reference::refusal::Refusal;
+use reference::table::LaneKind;
+use std::hint::black_box;
+
+/// What a question names.
+struct Ask {
+    id: Vec<u8>,
+    node: Vec<u8>,
+    property: Vec<u8>,
+    number: usize,
+}
+
+/// Every property of every device, the devices changing fastest.
+fn asks() -> Vec<Ask> {
+    let of = |number: usize| {
+        let sample = &PROPERTIES[number];
+        ids().into_iter().map(move |id| Ask {
+            id: id.into_bytes(),
+            node: sample.node.into(),
+            property: sample.id.into(),
+            number,
+        })
+    };
+    (0..PROPERTIES.len()).flat_map(of).collect()
+}
+
+type Ours = fn(&[u8], &Ask, &mut Values) -> u8;
+type Reference = fn(&Table, &Ask) -> Result<(), Refusal>;
+
+pub fn rows() -> Vec<Row> {
+    let of = |depth: usize| {
+        questions().map(move |(name, ours, reference)| {
+            Row::new(format!("{name}, J {depth}"), Unit::Call, move || sides(depth, ours, reference))
+        })
+    };
+    [0, 64].into_iter().flat_map(of).collect()
+}
+
+fn sides(depth: usize, ours: Ours, reference: Reference) -> Sides {
+    let batch = asks().len();
+    let ask_ours = move |(mem, asks): &mut (Vec<u8>, Vec<Ask>)| {
+        for ask in asks.iter() {
+            let mut out = Values::default();
+            assert_eq!(ours(mem, ask, &mut out), 0);
+            black_box(out);
+        }
+    };
+    let ask_reference = move |(table, asks): &mut (Table, Vec<Ask>)| {
+        for ask in asks.iter() {
+            assert_eq!(reference(table, ask), Ok(()));
+        }
+    };
+    Sides {
+        ours: batches((ours_of(depth), asks()), batch, ask_ours),
+        reference: batches((reference_of(depth), asks()), batch, ask_reference),
+        limit: None,
+    }
+}
+
+fn seen<T>(answer: T) {
+    black_box(answer);
+}
+
+fn told<T>(answer: T) -> Result<(), Refusal> {
+    seen(answer);
+    Ok(())
+}
+
+fn description_of<'a>(table: &'a Table, ask: &Ask) -> Result<&'a reference::description::Description, Refusal> {
+    Ok(table.device(&ask.id)?.description.as_ref().expect("a description"))
+}
+
+fn lane(table: &Table, ask: &Ask, kind: LaneKind) -> Result<(), Refusal> {
+    table.lane(&ask.id, &ask.node, &ask.property, kind).map(seen)
+}
+
+fn questions() -> [(&'static str, Ours, Reference); 13] {
+    [
+        ("count", |mem, _, out| ours::count(mem, out), |table, _| told(table.count())),
+        ("nth device", |mem, ask, out| ours::nth(mem, ask.number, out), |table, ask| table.nth(ask.number).map(seen)),
+        (
+            "states",
+            |mem, ask, out| ours::states(mem, &ask.id, out),
+            |table, ask| {
+                let device = table.device(&ask.id)?;
+                seen((device.state, table.effective_state(device), device.time));
+                Ok(())
+            },
+        ),
+        (
+            "root",
+            |mem, ask, out| ours::root(mem, &ask.id, out),
+            |table, ask| description_of(table, ask).map(|description| seen(&description.root)),
+        ),
+        (
+            "parent",
+            |mem, ask, out| ours::parent(mem, &ask.id, out),
+            |table, ask| description_of(table, ask).map(|description| seen(&description.parent)),
+        ),
+        (
+            "version",
+            |mem, ask, out| ours::version(mem, &ask.id, out),
+            |table, ask| description_of(table, ask).map(|description| seen(description.version)),
+        ),
+        (
+            "filled",
+            |mem, ask, out| ours::filled(mem, &ask.id, out),
+            |table, ask| table.device(&ask.id).map(|device| seen(device.filled())),
+        ),
+        (
+            "property",
+            |mem, ask, out| ours::property(mem, &ask.id, ask.number, out),
+            |table, ask| table.property(&ask.id, ask.number).map(seen),
+        ),
+        (
+            "lane, value",
+            |mem, ask, out| ours::lane(mem, &ask.id, &ask.node, &ask.property, 0, out),
+            |table, ask| lane(table, ask, LaneKind::Value),
+        ),
+        (
+            "lane, target",
+            |mem, ask, out| ours::lane(mem, &ask.id, &ask.node, &ask.property, 1, out),
+            |table, ask| lane(table, ask, LaneKind::Target),
+        ),
+        (
+            "lane, asked",
+            |mem, ask, out| ours::lane(mem, &ask.id, &ask.node, &ask.property, 2, out),
+            |table, ask| lane(table, ask, LaneKind::Asked),
+        ),
+        ("last time", |mem, _, out| ours::last(mem, out), |table, _| told(table.last_time())),
+        ("steps", |mem, _, out| ours::steps(mem, out), |table, _| told(table.steps())),
+    ]
+}
