@@ -1,9 +1,14 @@
 -- What the contracts of private functions cite. No promise rests on it.
 use Prim.Native.Nat.{_+_, _^_, _<_}
+use Rattle.trace.specs.declared.EventAt.{EventAt}
 use Rattle.trace.specs.declared.Reading.{Reading}
 use Rattle.trace.specs.declared.Reading.the-variants.{Found, Refused}
 
 -- the ends of an event's topic and payload are numbers of 64 bits
-abbrev pub Fits : Reading → Type 0
-Fits (Found e) = (e .topic + e .tlen < 2 ^ 64) × (e .payload + e .plen < 2 ^ 64)
-Fits (Refused k) = Unit
+abbrev pub Fits : EventAt → Type 0
+Fits e = (e .topic + e .tlen < 2 ^ 64) × (e .payload + e .plen < 2 ^ 64)
+
+-- those of an event that was read
+abbrev pub FitsFound : Reading → Type 0
+FitsFound (Found e) = Fits e
+FitsFound (Refused k) = Unit

@@ -1,10 +1,12 @@
 // Trace files.
 ghost use mathlib.Core.Path.{_≡_};
+ghost use mathlib.Core.List.{[], _∷_, _++_};
 ghost use Rattle.trace.specs.Calls.{meaningChecked, checked, Read, Wrote, emptied, appended, event};
 ghost use Rattle.cursor.specs.Cursor.{Stepped};
 ghost use Rattle.reply.specs.Reply.{Told, Replied, isSet};
-ghost use Rattle.reply.specs.Files.{showChecked, showReading, stepReply, showStep, showWritten};
-ghost use Rattle.viewer.specs.Parts.{Fits};
+ghost use Rattle.reply.specs.Files.{showChecked, eventValues, showReading, stepReply, showStep, showWritten};
+ghost use Rattle.viewer.specs.Parts.{Fits, FitsFound};
+use trace::EventAt;
 use trace::Reading;
 
 // Checks a whole trace: its event count.
@@ -16,23 +18,31 @@ pub extern "C" fn homie5_trace_check(file: &[u8], out: &mut [u64]) -> u8
     reply::files::tell_checked(out, a)
 }
 
+// An event's values, and a place.
+fn event_values(e: EventAt, at: usize) -> [u64; 7]
+    requires { ⌜ Fits e ⌝ }
+    ensures { λ r. ⌜ r ≡ eventValues e ++ (at ∷ []) ⌝ }
+{
+    [
+        e.time,
+        e.topic as u64,
+        (e.topic + e.tlen) as u64,
+        e.retained as u64,
+        e.payload as u64,
+        (e.payload + e.plen) as u64,
+        at as u64,
+    ]
+}
+
 fn tell_reading(out: &mut [u64], a: Reading) -> u8
-    requires { ⌜ Fits a ⌝ }
+    requires { ⌜ FitsFound a ⌝ }
     ensures { λ r. ⌜ Replied (showReading a) (now (out .entry)) r (now (out .exit)) ⌝ }
 {
     match a {
         Reading::Refused(k) => k,
         Reading::Found(e) => {
-            let retained = e.retained;
-            let vs = [
-                e.time,
-                e.topic as u64,
-                (e.topic + e.tlen) as u64,
-                retained as u64,
-                e.payload as u64,
-                (e.payload + e.plen) as u64,
-            ];
-            reply::tell(out, &vs)
+            let vs = event_values(e, 0);
+            reply::tell(out, &vs[..6])
         }
     }
 }
@@ -47,22 +57,13 @@ pub extern "C" fn homie5_trace_read(file: &[u8], i: usize, out: &mut [u64]) -> u
 }
 
 fn tell_step(out: &mut [u64], a: Reading, at: usize) -> u8
-    requires { ⌜ Fits a ⌝ }
+    requires { ⌜ FitsFound a ⌝ }
     ensures { λ r. ⌜ Replied (stepReply a at) (now (out .entry)) r (now (out .exit)) ⌝ }
 {
     match a {
         Reading::Refused(k) => k,
-        Reading::Found(event) => {
-            let retained = event.retained;
-            let vs = [
-                event.time,
-                event.topic as u64,
-                (event.topic + event.tlen) as u64,
-                retained as u64,
-                event.payload as u64,
-                (event.payload + event.plen) as u64,
-                at as u64,
-            ];
+        Reading::Found(e) => {
+            let vs = event_values(e, at);
             reply::tell(out, &vs)
         }
     }

@@ -1,8 +1,7 @@
 use mathlib.Core.Path.{ap}
-use native.Mathlib.Omega.{arith}
 use Rattle.reply.specs.Files.{showReading}
 use Rattle.reply.proofs.Out.{refusal, reply-as}
-use Rattle.viewer.proofs.Read.{fits-found, event-shown}
+use Rattle.viewer.proofs.Read.{fits-found, six, event-shown}
 use borrow.Author.Needs.{needs}
 use Rattle.viewer.proofs.files.tell_reading.Statement.{statement}
 use Rattle.viewer.proofs.files.tell_reading.Tie as tie
@@ -13,17 +12,14 @@ enum-known-a c = search needs
 enum-known-a-2 : tie.Need-enum-known-a-2
 enum-known-a-2 c = search needs
 
-add-t9 : tie.Need-add-t9
-add-t9 c = omega (arith, fits-found _ _ (c .before .before .before .before .before .pre) (c .before .before .a2 .given .1) .0)
+event-values-requires : tie.Need-event-values-requires
+event-values-requires c κs = fits-found _ _ (c .before .before .before .before .pre) (c .before .a2 .given .1)
 
-cast-t11 : tie.Need-cast-t11
-cast-t11 c = search needs
-
-add-t13 : tie.Need-add-t13
-add-t13 c = omega (arith, fits-found _ _ (c .before .before .before .before .before .before .pre) (c .before .before .before .a2 .given .1) .1)
+array-share-prefix-vs : tie.Need-array-share-prefix-vs
+array-share-prefix-vs c = search needs
 
 slice-aggregate-tell : tie.Need-slice-aggregate-tell
-slice-aggregate-tell c = search needs
+slice-aggregate-tell c = six _ _ _ (c .before .before .event-values .ensures)
 
 tell-requires : tie.Need-tell-requires
 tell-requires c κs = search needs
@@ -36,7 +32,7 @@ same-length : tie.Need-same-length
 same-length c = search needs
 
 returns-2 : tie.Need-returns-2
-returns-2 c = reply-as _ _ _ _ _ (event-shown _ _ (c .before .before .before .before .before .before .before .before .a2 .given .1)) (c .before .before .tell .ensures)
+returns-2 c = reply-as _ _ _ _ _ (event-shown _ _ _ _ (c .before .before .before .before .before .before .before .a2 .given .1) (c .before .before .before .before .before .event-values .ensures)) (c .before .before .tell .ensures)
 
 pub tell-reading-spec : {M : Type 1} → statement M
 tell-reading-spec =
@@ -44,9 +40,8 @@ tell-reading-spec =
     (tie.spec
     enum-known-a
     enum-known-a-2
-    add-t9
-    cast-t11
-    add-t13
+    event-values-requires
+    array-share-prefix-vs
     slice-aggregate-tell
     tell-requires
     returns

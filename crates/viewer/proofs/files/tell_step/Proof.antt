@@ -1,4 +1,3 @@
-use native.Mathlib.Omega.{arith}
 use Rattle.reply.proofs.Out.{refusal, reply-as}
 use Rattle.viewer.proofs.Read.{fits-found, step-shown, step-refused}
 use borrow.Author.Needs.{needs}
@@ -11,14 +10,8 @@ enum-known-a c = search needs
 enum-known-a-2 : tie.Need-enum-known-a-2
 enum-known-a-2 c = search needs
 
-add-t10 : tie.Need-add-t10
-add-t10 c = omega (arith, fits-found _ _ (c .before .before .before .before .before .pre) (c .before .before .a2 .given .1) .0)
-
-cast-t12 : tie.Need-cast-t12
-cast-t12 c = search needs
-
-add-t14 : tie.Need-add-t14
-add-t14 c = omega (arith, fits-found _ _ (c .before .before .before .before .before .before .pre) (c .before .before .before .a2 .given .1) .1)
+event-values-requires : tie.Need-event-values-requires
+event-values-requires c κs = fits-found _ _ (c .before .before .before .before .pre) (c .before .a2 .given .1)
 
 slice-aggregate-tell : tie.Need-slice-aggregate-tell
 slice-aggregate-tell c = search needs
@@ -33,7 +26,7 @@ same-length : tie.Need-same-length
 same-length c = search needs
 
 returns-2 : tie.Need-returns-2
-returns-2 c = reply-as _ _ _ _ _ (step-shown _ _ _ (c .before .before .before .before .before .before .before .before .a2 .given .1)) (c .before .before .tell .ensures)
+returns-2 c = reply-as _ _ _ _ _ (step-shown _ _ _ _ (c .before .before .before .before .before .before .before .a2 .given .1) (c .before .before .before .before .before .event-values .ensures)) (c .before .before .tell .ensures)
 
 pub tell-step-spec : {M : Type 1} → statement M
 tell-step-spec =
@@ -41,9 +34,7 @@ tell-step-spec =
     (tie.spec
     enum-known-a
     enum-known-a-2
-    add-t10
-    cast-t12
-    add-t14
+    event-values-requires
     slice-aggregate-tell
     tell-requires
     returns
