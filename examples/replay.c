@@ -92,7 +92,7 @@ static void print_device(const uint8_t *mem, size_t size, bytes id)
 static void print_table(const uint8_t *mem, size_t size)
 {
     uint64_t out[HOMIE5_VALUES];
-    for (size_t i = 0; homie5_nth(mem, size, i, out, HOMIE5_VALUES) == HOMIE5_OK; i++)
+    for (size_t i = 0; homie5_device_at(mem, size, i, out, HOMIE5_VALUES) == HOMIE5_OK; i++)
         print_device(mem, size, part(mem, out));
     if (homie5_steps(mem, size, out, HOMIE5_VALUES) == HOMIE5_OK)
         printf("steps %" PRIu64 "\n", out[0]);

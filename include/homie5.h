@@ -2,14 +2,16 @@
  * Homie 5 traces: the C interface of the static library `viewer`.
  *
  * Every call is total: it is safe for all bytes and numbers, keeps no state of its own and allocates nothing.
- * A byte string is a pointer and a length. A pointer must not be NULL, not even with length 0, and a buffer that a
- * call writes must not overlap any other argument.
+ * A byte string is a pointer and a length. No pointer may be NULL, not even with length 0: where there is no byte to
+ * point at, as for a format that is not given or an `out` that is not wanted, pass the address of any object. What a
+ * call writes (`out`, `buf`, and `mem` of homie5_open, homie5_message and homie5_step_back) must not overlap any other
+ * argument.
  *
  * Every call returns a number. It is 0 (HOMIE5_OK) where the call answers, else the number of a refusal. The
- * judgements homie5_datatype_read, homie5_format_judge and homie5_payload_judge return 1 for yes and 0 for no instead.
+ * judgements homie5_is_datatype, homie5_is_format and homie5_is_payload return 1 for yes and 0 for no instead.
  *
  * The values of an answer go to `out`, an array of `out_len` numbers, in the order that stands with each call. Where
- * the array is too short, the values that do not fit are left away. Nothing else of the array is altered; a refusal
+ * the array is too short, the values that do not fit are left out. Nothing else of the array is altered; a refusal
  * alters nothing of it. HOMIE5_VALUES numbers are enough for every call.
  *
  * A place is two numbers, start and end: the bytes start .. end - 1 of the byte string that stands with the call.
@@ -73,15 +75,15 @@ enum {
 
 /* Datatypes. A number past the last reads as the last. */
 enum {
-    HOMIE5_STRING = 0,
-    HOMIE5_INTEGER = 1,
-    HOMIE5_FLOAT = 2,
-    HOMIE5_BOOLEAN = 3,
-    HOMIE5_ENUM = 4,
-    HOMIE5_COLOR = 5,
-    HOMIE5_DATETIME = 6,
-    HOMIE5_DURATION = 7,
-    HOMIE5_JSON = 8
+    HOMIE5_DATATYPE_STRING = 0,
+    HOMIE5_DATATYPE_INTEGER = 1,
+    HOMIE5_DATATYPE_FLOAT = 2,
+    HOMIE5_DATATYPE_BOOLEAN = 3,
+    HOMIE5_DATATYPE_ENUM = 4,
+    HOMIE5_DATATYPE_COLOR = 5,
+    HOMIE5_DATATYPE_DATETIME = 6,
+    HOMIE5_DATATYPE_DURATION = 7,
+    HOMIE5_DATATYPE_JSON = 8
 };
 
 /* What is kept of a format. */
@@ -94,11 +96,11 @@ enum {
 
 /* States of devices. */
 enum {
-    HOMIE5_INIT = 0,
-    HOMIE5_READY = 1,
-    HOMIE5_DISCONNECTED = 2,
-    HOMIE5_SLEEPING = 3,
-    HOMIE5_LOST = 4
+    HOMIE5_STATE_INIT = 0,
+    HOMIE5_STATE_READY = 1,
+    HOMIE5_STATE_DISCONNECTED = 2,
+    HOMIE5_STATE_SLEEPING = 3,
+    HOMIE5_STATE_LOST = 4
 };
 
 /* Lanes of a property. A number past the last reads as the last. */
@@ -135,7 +137,8 @@ uint8_t homie5_trace_append(uint8_t *buf, size_t buf_len, size_t used, uint64_t 
 /* Topics, payloads, descriptions -------------------------------------------------------------------------------- */
 
 /*
- * Reads a topic of the table of a domain. Values: the form; then places in the topic (3 to 7 numbers in all):
+ * Reads a topic under a domain, which is compared by its bytes and may be any. Values: the form; then places in the
+ * topic (3 to 7 numbers in all):
  *   state, description: device. value, set, target: device, node, property. alert: device, alert ID. log: device,
  *   level. broadcast: from the first ID to the last one's end. other: device, the ID after `$`, all levels after it.
  * Refusals: 8, 9.
@@ -148,17 +151,17 @@ uint8_t homie5_topic_flag(const uint8_t *domain, size_t domain_len, const uint8_
                           uint64_t *out, size_t out_len);
 
 /* The datatype of a name. 1 yes, 0 where no datatype has it. Values of a yes: its number. */
-uint8_t homie5_datatype_read(const uint8_t *name, size_t name_len, uint64_t *out, size_t out_len);
+uint8_t homie5_is_datatype(const uint8_t *name, size_t name_len, uint64_t *out, size_t out_len);
 
 /*
  * Whether a format is valid for a datatype, or, where `given` is 0, whether it may be missing. 1 yes, 0 no.
  * Values of a yes: what is kept of it, HOMIE5_KEPT_..
  */
-uint8_t homie5_format_judge(uint8_t datatype, uint8_t given, const uint8_t *format, size_t format_len, uint64_t *out,
+uint8_t homie5_is_format(uint8_t datatype, uint8_t given, const uint8_t *format, size_t format_len, uint64_t *out,
                             size_t out_len);
 
-/* Whether a payload is valid for a datatype and a format, which must be valid itself. 1 yes, 0 no. */
-uint8_t homie5_payload_judge(uint8_t datatype, const uint8_t *format, size_t format_len, const uint8_t *payload,
+/* Whether a payload is valid for a datatype and a format. 1 yes, 0 no; 0 too where the format is not valid. */
+uint8_t homie5_is_payload(uint8_t datatype, const uint8_t *format, size_t format_len, const uint8_t *payload,
                              size_t payload_len);
 
 /* Whether a text is a valid description of the device of the ID `own`. Refusals: 15. */
@@ -208,10 +211,10 @@ uint8_t homie5_step_back(uint8_t *mem, size_t mem_len);
  */
 
 /* How many devices there are. Values: that number. */
-uint8_t homie5_count(const uint8_t *mem, size_t mem_len, uint64_t *out, size_t out_len);
+uint8_t homie5_device_count(const uint8_t *mem, size_t mem_len, uint64_t *out, size_t out_len);
 
 /* The i-th device, from 0, by ascending ID bytes. Values: the place of its ID. Also 3. */
-uint8_t homie5_nth(const uint8_t *mem, size_t mem_len, size_t i, uint64_t *out, size_t out_len);
+uint8_t homie5_device_at(const uint8_t *mem, size_t mem_len, size_t i, uint64_t *out, size_t out_len);
 
 /* The states of a device. Values: its own state, its effective state, the time of its own. */
 uint8_t homie5_states(const uint8_t *mem, size_t mem_len, const uint8_t *id, size_t id_len, uint64_t *out,
@@ -237,7 +240,7 @@ static inline int64_t homie5_version_number(uint64_t version)
 }
 
 /* How many properties of a device hold a value. Values: that number. */
-uint8_t homie5_filled(const uint8_t *mem, size_t mem_len, const uint8_t *id, size_t id_len, uint64_t *out,
+uint8_t homie5_values_held(const uint8_t *mem, size_t mem_len, const uint8_t *id, size_t id_len, uint64_t *out,
                       size_t out_len);
 
 /*
@@ -256,7 +259,7 @@ uint8_t homie5_lane(const uint8_t *mem, size_t mem_len, const uint8_t *id, size_
                     size_t out_len);
 
 /* The time of the last message taken. Values: 1 and that time, or 0 where there was none. */
-uint8_t homie5_last(const uint8_t *mem, size_t mem_len, uint64_t *out, size_t out_len);
+uint8_t homie5_last_time(const uint8_t *mem, size_t mem_len, uint64_t *out, size_t out_len);
 
 /* How many steps back are on offer. Values: that number. */
 uint8_t homie5_steps(const uint8_t *mem, size_t mem_len, uint64_t *out, size_t out_len);

@@ -71,7 +71,7 @@ pub fn topic(domain: &[u8], topic: &[u8], out: &mut Values) -> u8 {
 }
 
 pub fn payload(datatype: u8, format: &[u8], payload: &[u8]) -> u8 {
-    unsafe { sys::homie5_payload_judge(datatype, format.as_ptr(), format.len(), payload.as_ptr(), payload.len()) }
+    unsafe { sys::homie5_is_payload(datatype, format.as_ptr(), format.len(), payload.as_ptr(), payload.len()) }
 }
 
 pub fn description(own: &[u8], text: &[u8]) -> u8 {
@@ -79,11 +79,11 @@ pub fn description(own: &[u8], text: &[u8]) -> u8 {
 }
 
 pub fn count(mem: &[u8], out: &mut Values) -> u8 {
-    unsafe { sys::homie5_count(mem.as_ptr(), mem.len(), out.as_mut_ptr(), out.len()) }
+    unsafe { sys::homie5_device_count(mem.as_ptr(), mem.len(), out.as_mut_ptr(), out.len()) }
 }
 
 pub fn last(mem: &[u8], out: &mut Values) -> u8 {
-    unsafe { sys::homie5_last(mem.as_ptr(), mem.len(), out.as_mut_ptr(), out.len()) }
+    unsafe { sys::homie5_last_time(mem.as_ptr(), mem.len(), out.as_mut_ptr(), out.len()) }
 }
 
 pub fn steps(mem: &[u8], out: &mut Values) -> u8 {
@@ -91,7 +91,7 @@ pub fn steps(mem: &[u8], out: &mut Values) -> u8 {
 }
 
 pub fn nth(mem: &[u8], i: usize, out: &mut Values) -> u8 {
-    unsafe { sys::homie5_nth(mem.as_ptr(), mem.len(), i, out.as_mut_ptr(), out.len()) }
+    unsafe { sys::homie5_device_at(mem.as_ptr(), mem.len(), i, out.as_mut_ptr(), out.len()) }
 }
 
 type OfDevice = unsafe extern "C" fn(*const u8, usize, *const u8, usize, *mut u64, usize) -> u8;
@@ -118,7 +118,7 @@ pub fn version(mem: &[u8], id: &[u8], out: &mut Values) -> u8 {
 }
 
 pub fn filled(mem: &[u8], id: &[u8], out: &mut Values) -> u8 {
-    of_device(sys::homie5_filled, mem, id, out)
+    of_device(sys::homie5_values_held, mem, id, out)
 }
 
 pub fn property(mem: &[u8], id: &[u8], i: usize, out: &mut Values) -> u8 {

@@ -81,17 +81,17 @@ static void topics(void)
 
 static void judgements(void)
 {
-    assert(homie5_payload_judge(HOMIE5_INTEGER, TEXT("2:6:2"), TEXT("1")) == 1);
-    assert(homie5_payload_judge(HOMIE5_INTEGER, TEXT("2:6:2"), TEXT("7")) == 0);
-    assert(homie5_payload_judge(HOMIE5_COLOR, TEXT("rgb"), TEXT("rgb,0,255,1e2")) == 1);
-    assert(homie5_payload_judge(255, TEXT(""), TEXT("[]")) == 1);
-    ANSWERS(1, homie5_datatype_read(TEXT("string"), out, out_len), HOMIE5_STRING);
-    ANSWERS(1, homie5_datatype_read(TEXT("json"), out, out_len), HOMIE5_JSON);
-    REFUSES(0, homie5_datatype_read(TEXT("strings"), out, out_len));
-    REFUSES(0, homie5_datatype_read(TEXT(""), out, out_len));
-    ANSWERS(1, homie5_format_judge(HOMIE5_INTEGER, 0, TEXT(""), out, out_len), HOMIE5_KEPT_COLON);
-    ANSWERS(1, homie5_format_judge(HOMIE5_ENUM, 1, TEXT("a,b"), out, out_len), HOMIE5_KEPT_AS_GIVEN);
-    REFUSES(0, homie5_format_judge(HOMIE5_ENUM, 1, TEXT("a,a"), out, out_len));
+    assert(homie5_is_payload(HOMIE5_DATATYPE_INTEGER, TEXT("2:6:2"), TEXT("1")) == 1);
+    assert(homie5_is_payload(HOMIE5_DATATYPE_INTEGER, TEXT("2:6:2"), TEXT("7")) == 0);
+    assert(homie5_is_payload(HOMIE5_DATATYPE_COLOR, TEXT("rgb"), TEXT("rgb,0,255,1e2")) == 1);
+    assert(homie5_is_payload(255, TEXT(""), TEXT("[]")) == 1);
+    ANSWERS(1, homie5_is_datatype(TEXT("string"), out, out_len), HOMIE5_DATATYPE_STRING);
+    ANSWERS(1, homie5_is_datatype(TEXT("json"), out, out_len), HOMIE5_DATATYPE_JSON);
+    REFUSES(0, homie5_is_datatype(TEXT("strings"), out, out_len));
+    REFUSES(0, homie5_is_datatype(TEXT(""), out, out_len));
+    ANSWERS(1, homie5_is_format(HOMIE5_DATATYPE_INTEGER, 0, TEXT(""), out, out_len), HOMIE5_KEPT_COLON);
+    ANSWERS(1, homie5_is_format(HOMIE5_DATATYPE_ENUM, 1, TEXT("a,b"), out, out_len), HOMIE5_KEPT_AS_GIVEN);
+    REFUSES(0, homie5_is_format(HOMIE5_DATATYPE_ENUM, 1, TEXT("a,a"), out, out_len));
 }
 
 static void descriptions(void)
@@ -104,8 +104,8 @@ static void descriptions(void)
     ANSWERS(HOMIE5_OK, homie5_description_read(LAMP, TEXT(lamp), out, out_len), ((uint64_t)1 << 63) + 1, 0, 0, 0, 0, 1);
     ANSWERS(HOMIE5_OK, homie5_description_read(LAMP, TEXT(child), out, out_len), ((uint64_t)1 << 63) - 1, 1, 35, 1, 50, 0);
     REFUSES(HOMIE5_BAD_DESCRIPTION, homie5_description_read(TEXT("hub"), TEXT(child), out, out_len));
-    ANSWERS(HOMIE5_OK, homie5_description_property(LAMP, TEXT(lamp), 0, out, out_len), 36, 59, HOMIE5_BOOLEAN, HOMIE5_KEPT_FALSE_TRUE, 0, 0, 1, 1);
-    ANSWERS(HOMIE5_OK, homie5_description_property(LAMP, TEXT(mode), 0, out, out_len), 36, 55, HOMIE5_ENUM, HOMIE5_KEPT_AS_GIVEN, 1, 87, 1, 0);
+    ANSWERS(HOMIE5_OK, homie5_description_property(LAMP, TEXT(lamp), 0, out, out_len), 36, 59, HOMIE5_DATATYPE_BOOLEAN, HOMIE5_KEPT_FALSE_TRUE, 0, 0, 1, 1);
+    ANSWERS(HOMIE5_OK, homie5_description_property(LAMP, TEXT(mode), 0, out, out_len), 36, 55, HOMIE5_DATATYPE_ENUM, HOMIE5_KEPT_AS_GIVEN, 1, 87, 1, 0);
     REFUSES(HOMIE5_NO_SUCH_NUMBER, homie5_description_property(LAMP, TEXT(lamp), 1, out, out_len));
     REFUSES(HOMIE5_BAD_DESCRIPTION, homie5_description_property(LAMP, TEXT("{}"), 0, out, out_len));
     assert(homie5_version_number(0) == INT64_MIN && homie5_version_number(UINT64_MAX) == INT64_MAX);

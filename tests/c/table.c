@@ -75,7 +75,7 @@ static void refuses_device(unsigned number, size_t len)
     REFUSES(number, homie5_root(mem, len, LAMP, out, out_len));
     REFUSES(number, homie5_parent(mem, len, LAMP, out, out_len));
     REFUSES(number, homie5_version(mem, len, LAMP, out, out_len));
-    REFUSES(number, homie5_filled(mem, len, LAMP, out, out_len));
+    REFUSES(number, homie5_values_held(mem, len, LAMP, out, out_len));
     REFUSES(number, homie5_property(mem, len, LAMP, 0, out, out_len));
     REFUSES(number, homie5_lane(mem, len, ON, HOMIE5_LANE_VALUE, out, out_len));
 }
@@ -83,9 +83,9 @@ static void refuses_device(unsigned number, size_t len)
 static void no_devices(void)
 {
     keep();
-    ANSWERS(HOMIE5_OK, homie5_count(mem, LEN, out, out_len), 0);
-    REFUSES(HOMIE5_NO_SUCH_NUMBER, homie5_nth(mem, LEN, 0, out, out_len));
-    ANSWERS(HOMIE5_OK, homie5_last(mem, LEN, out, out_len), 0);
+    ANSWERS(HOMIE5_OK, homie5_device_count(mem, LEN, out, out_len), 0);
+    REFUSES(HOMIE5_NO_SUCH_NUMBER, homie5_device_at(mem, LEN, 0, out, out_len));
+    ANSWERS(HOMIE5_OK, homie5_last_time(mem, LEN, out, out_len), 0);
     ANSWERS(HOMIE5_OK, homie5_steps(mem, LEN, out, out_len), 0);
     refuses_device(HOMIE5_NO_DEVICE, LEN);
     assert(homie5_step_back(mem, LEN) == HOMIE5_NO_STEP);
@@ -96,11 +96,11 @@ static void not_described(void)
 {
     takes(T0, "homie/5/lamp/$state", 1, "ready");
     keep();
-    ANSWERS(HOMIE5_OK, homie5_states(mem, LEN, LAMP, out, out_len), HOMIE5_READY, HOMIE5_READY, T0);
+    ANSWERS(HOMIE5_OK, homie5_states(mem, LEN, LAMP, out, out_len), HOMIE5_STATE_READY, HOMIE5_STATE_READY, T0);
     ANSWERS(HOMIE5_OK, homie5_root(mem, LEN, LAMP, out, out_len), 0);
     ANSWERS(HOMIE5_OK, homie5_parent(mem, LEN, LAMP, out, out_len), 0);
     ANSWERS(HOMIE5_OK, homie5_version(mem, LEN, LAMP, out, out_len), 0);
-    ANSWERS(HOMIE5_OK, homie5_filled(mem, LEN, LAMP, out, out_len), 0);
+    ANSWERS(HOMIE5_OK, homie5_values_held(mem, LEN, LAMP, out, out_len), 0);
     REFUSES(HOMIE5_NO_SUCH_NUMBER, homie5_property(mem, LEN, LAMP, 0, out, out_len));
     REFUSES(HOMIE5_NO_PROPERTY, homie5_lane(mem, LEN, ON, HOMIE5_LANE_VALUE, out, out_len));
     assert(kept());
@@ -129,18 +129,18 @@ static void device(void)
 {
     uint64_t id[2], root[3], parent[3];
     keep();
-    ANSWERS(HOMIE5_OK, homie5_count(mem, LEN, out, out_len), 2);
-    assert(homie5_nth(mem, LEN, 1, id, 2) == HOMIE5_OK && stands(id[0], id[1], "lamp"));
-    ANSWERS(HOMIE5_OK, homie5_nth(mem, LEN, 1, out, out_len), id[0], id[1]);
-    REFUSES(HOMIE5_NO_SUCH_NUMBER, homie5_nth(mem, LEN, 2, out, out_len));
-    ANSWERS(HOMIE5_OK, homie5_states(mem, LEN, LAMP, out, out_len), HOMIE5_READY, HOMIE5_LOST, T0);
+    ANSWERS(HOMIE5_OK, homie5_device_count(mem, LEN, out, out_len), 2);
+    assert(homie5_device_at(mem, LEN, 1, id, 2) == HOMIE5_OK && stands(id[0], id[1], "lamp"));
+    ANSWERS(HOMIE5_OK, homie5_device_at(mem, LEN, 1, out, out_len), id[0], id[1]);
+    REFUSES(HOMIE5_NO_SUCH_NUMBER, homie5_device_at(mem, LEN, 2, out, out_len));
+    ANSWERS(HOMIE5_OK, homie5_states(mem, LEN, LAMP, out, out_len), HOMIE5_STATE_READY, HOMIE5_STATE_LOST, T0);
     assert(homie5_root(mem, LEN, LAMP, root, 3) == HOMIE5_OK && stands(root[1], root[2], "hub"));
     ANSWERS(HOMIE5_OK, homie5_root(mem, LEN, LAMP, out, out_len), 1, root[1], root[2]);
     assert(homie5_parent(mem, LEN, LAMP, parent, 3) == HOMIE5_OK && stands(parent[1], parent[2], "hall"));
     ANSWERS(HOMIE5_OK, homie5_parent(mem, LEN, LAMP, out, out_len), 1, parent[1], parent[2]);
     ANSWERS(HOMIE5_OK, homie5_version(mem, LEN, LAMP, out, out_len), 1, ((uint64_t)1 << 63) - 2);
-    ANSWERS(HOMIE5_OK, homie5_filled(mem, LEN, LAMP, out, out_len), 1);
-    ANSWERS(HOMIE5_OK, homie5_last(mem, LEN, out, out_len), 1, T0 + 30);
+    ANSWERS(HOMIE5_OK, homie5_values_held(mem, LEN, LAMP, out, out_len), 1);
+    ANSWERS(HOMIE5_OK, homie5_last_time(mem, LEN, out, out_len), 1, T0 + 30);
     ANSWERS(HOMIE5_OK, homie5_steps(mem, LEN, out, out_len), DEPTH);
     assert(kept());
 }
@@ -151,10 +151,10 @@ static void properties(void)
     keep();
     assert(homie5_property(mem, LEN, LAMP, 0, p, 9) == HOMIE5_OK);
     assert(stands(p[0], p[1], "light") && stands(p[2], p[3], "mode") && stands(p[5], p[6], "a,b"));
-    ANSWERS(HOMIE5_OK, homie5_property(mem, LEN, LAMP, 0, out, out_len), p[0], p[1], p[2], p[3], HOMIE5_ENUM, p[5], p[6], 0, 1);
+    ANSWERS(HOMIE5_OK, homie5_property(mem, LEN, LAMP, 0, out, out_len), p[0], p[1], p[2], p[3], HOMIE5_DATATYPE_ENUM, p[5], p[6], 0, 1);
     assert(homie5_property(mem, LEN, LAMP, 1, p, 9) == HOMIE5_OK);
     assert(stands(p[0], p[1], "light") && stands(p[2], p[3], "on") && stands(p[5], p[6], "false,true"));
-    ANSWERS(HOMIE5_OK, homie5_property(mem, LEN, LAMP, 1, out, out_len), p[0], p[1], p[2], p[3], HOMIE5_BOOLEAN, p[5], p[6], 1, 1);
+    ANSWERS(HOMIE5_OK, homie5_property(mem, LEN, LAMP, 1, out, out_len), p[0], p[1], p[2], p[3], HOMIE5_DATATYPE_BOOLEAN, p[5], p[6], 1, 1);
     REFUSES(HOMIE5_NO_SUCH_NUMBER, homie5_property(mem, LEN, LAMP, 2, out, out_len));
     assert(kept());
 }
@@ -177,11 +177,11 @@ static void steps_back(void)
 {
     assert(homie5_step_back(mem, LEN) == HOMIE5_OK);
     ANSWERS(HOMIE5_OK, homie5_lane(mem, LEN, ON, HOMIE5_LANE_ASKED, out, out_len), 0);
-    ANSWERS(HOMIE5_OK, homie5_last(mem, LEN, out, out_len), 1, T0 + 20);
+    ANSWERS(HOMIE5_OK, homie5_last_time(mem, LEN, out, out_len), 1, T0 + 20);
     assert(homie5_step_back(mem, LEN) == HOMIE5_OK);
-    ANSWERS(HOMIE5_OK, homie5_filled(mem, LEN, LAMP, out, out_len), 0);
+    ANSWERS(HOMIE5_OK, homie5_values_held(mem, LEN, LAMP, out, out_len), 0);
     assert(homie5_step_back(mem, LEN) == HOMIE5_OK);
-    ANSWERS(HOMIE5_OK, homie5_count(mem, LEN, out, out_len), 1);
+    ANSWERS(HOMIE5_OK, homie5_device_count(mem, LEN, out, out_len), 1);
     ANSWERS(HOMIE5_OK, homie5_steps(mem, LEN, out, out_len), 0);
     keep();
     assert(homie5_step_back(mem, LEN) == HOMIE5_NO_STEP);
@@ -194,10 +194,10 @@ static void not_sound(size_t len)
     keep();
     assert(homie5_message(mem, len, T0, TEXT(VALUE), 1, TEXT("true")) == HOMIE5_NOT_SOUND);
     assert(homie5_step_back(mem, len) == HOMIE5_NOT_SOUND);
-    REFUSES(HOMIE5_NOT_SOUND, homie5_count(mem, len, out, out_len));
-    REFUSES(HOMIE5_NOT_SOUND, homie5_nth(mem, len, 0, out, out_len));
+    REFUSES(HOMIE5_NOT_SOUND, homie5_device_count(mem, len, out, out_len));
+    REFUSES(HOMIE5_NOT_SOUND, homie5_device_at(mem, len, 0, out, out_len));
     refuses_device(HOMIE5_NOT_SOUND, len);
-    REFUSES(HOMIE5_NOT_SOUND, homie5_last(mem, len, out, out_len));
+    REFUSES(HOMIE5_NOT_SOUND, homie5_last_time(mem, len, out, out_len));
     REFUSES(HOMIE5_NOT_SOUND, homie5_steps(mem, len, out, out_len));
     assert(kept());
 }

@@ -29,16 +29,16 @@ questions! {
     topic_flag = homie5_topic_flag(domain, topic;);
     description_read = homie5_description_read(own, text;);
     description_property = homie5_description_property(own, text; i: usize);
-    count = homie5_count(mem;);
-    nth = homie5_nth(mem; i: usize);
+    count = homie5_device_count(mem;);
+    nth = homie5_device_at(mem; i: usize);
     states = homie5_states(mem, id;);
     root = homie5_root(mem, id;);
     parent = homie5_parent(mem, id;);
     version = homie5_version(mem, id;);
-    filled = homie5_filled(mem, id;);
+    filled = homie5_values_held(mem, id;);
     property = homie5_property(mem, id; i: usize);
     lane = homie5_lane(mem, id, node, property; kind: u8);
-    last = homie5_last(mem;);
+    last = homie5_last_time(mem;);
     steps = homie5_steps(mem;);
 }
 
@@ -68,7 +68,7 @@ pub fn trace_append(buf: &mut [u8], used: usize, event: &Event) -> Result<Values
 
 pub fn datatype_read(name: &[u8]) -> Option<Values> {
     // SAFETY: see the head of this file.
-    judge(|out| unsafe { sys::homie5_datatype_read(name.as_ptr(), name.len(), out.as_mut_ptr(), out.len()) })
+    judge(|out| unsafe { sys::homie5_is_datatype(name.as_ptr(), name.len(), out.as_mut_ptr(), out.len()) })
 }
 
 pub fn format_judge(datatype: u8, format: Option<&[u8]>) -> Option<Values> {
@@ -76,13 +76,13 @@ pub fn format_judge(datatype: u8, format: Option<&[u8]>) -> Option<Values> {
     let format = format.unwrap_or_default();
     // SAFETY: see the head of this file.
     judge(|out| unsafe {
-        sys::homie5_format_judge(datatype, given, format.as_ptr(), format.len(), out.as_mut_ptr(), out.len())
+        sys::homie5_is_format(datatype, given, format.as_ptr(), format.len(), out.as_mut_ptr(), out.len())
     })
 }
 
 pub fn payload_judge(datatype: u8, format: &[u8], payload: &[u8]) -> bool {
     // SAFETY: see the head of this file.
-    yes(unsafe { sys::homie5_payload_judge(datatype, format.as_ptr(), format.len(), payload.as_ptr(), payload.len()) })
+    yes(unsafe { sys::homie5_is_payload(datatype, format.as_ptr(), format.len(), payload.as_ptr(), payload.len()) })
 }
 
 pub fn description_judge(own: &[u8], text: &[u8]) -> Result<(), Refusal> {

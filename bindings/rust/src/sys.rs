@@ -36,8 +36,8 @@ extern "C" {
         out: *mut u64,
         out_len: usize,
     ) -> u8;
-    pub fn homie5_datatype_read(name: *const u8, name_len: usize, out: *mut u64, out_len: usize) -> u8;
-    pub fn homie5_format_judge(
+    pub fn homie5_is_datatype(name: *const u8, name_len: usize, out: *mut u64, out_len: usize) -> u8;
+    pub fn homie5_is_format(
         datatype: u8,
         given: u8,
         format: *const u8,
@@ -45,7 +45,7 @@ extern "C" {
         out: *mut u64,
         out_len: usize,
     ) -> u8;
-    pub fn homie5_payload_judge(
+    pub fn homie5_is_payload(
         datatype: u8,
         format: *const u8,
         format_len: usize,
@@ -89,8 +89,8 @@ extern "C" {
         payload_len: usize,
     ) -> u8;
     pub fn homie5_step_back(mem: *mut u8, mem_len: usize) -> u8;
-    pub fn homie5_count(mem: *const u8, mem_len: usize, out: *mut u64, out_len: usize) -> u8;
-    pub fn homie5_nth(mem: *const u8, mem_len: usize, i: usize, out: *mut u64, out_len: usize) -> u8;
+    pub fn homie5_device_count(mem: *const u8, mem_len: usize, out: *mut u64, out_len: usize) -> u8;
+    pub fn homie5_device_at(mem: *const u8, mem_len: usize, i: usize, out: *mut u64, out_len: usize) -> u8;
     pub fn homie5_states(
         mem: *const u8,
         mem_len: usize,
@@ -123,7 +123,7 @@ extern "C" {
         out: *mut u64,
         out_len: usize,
     ) -> u8;
-    pub fn homie5_filled(
+    pub fn homie5_values_held(
         mem: *const u8,
         mem_len: usize,
         id: *const u8,
@@ -153,6 +153,6 @@ extern "C" {
         out: *mut u64,
         out_len: usize,
     ) -> u8;
-    pub fn homie5_last(mem: *const u8, mem_len: usize, out: *mut u64, out_len: usize) -> u8;
+    pub fn homie5_last_time(mem: *const u8, mem_len: usize, out: *mut u64, out_len: usize) -> u8;
     pub fn homie5_steps(mem: *const u8, mem_len: usize, out: *mut u64, out_len: usize) -> u8;
 }

@@ -80,9 +80,9 @@ fn numbers_are_those_of_the_header() {
     ours.extend((0..).zip(forms).map(|(number, form)| (format!("FORM_{form}"), number)));
     ours.extend(listed!("", Refusal));
     ours.extend(listed!("FLAG_", Flag));
-    ours.extend(listed!("", Datatype));
+    ours.extend(listed!("DATATYPE_", Datatype));
     ours.extend(listed!("KEPT_", Kept));
-    ours.extend(listed!("", State));
+    ours.extend(listed!("STATE_", State));
     ours.extend(listed!("LANE_", Lane));
     ours.sort();
     assert_eq!(numbers(), ours);

@@ -31,7 +31,7 @@ bit b = cond b 1 0
 abbrev pub isSet : ℕ → Bool
 isSet n = not (eqb n 0)
 
--- an array with values written to its front: what does not fit is left away, nothing else of the array is altered
+-- an array with values written to its front: what does not fit is left out, nothing else of the array is altered
 unfoldable pub written : List ℕ → List ℕ → List ℕ
 written vs out = take (length out) (vs ++ drop (length vs) out)
 

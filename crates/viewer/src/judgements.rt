@@ -34,7 +34,7 @@ pub extern "C" fn homie5_topic_flag(domain: &[u8], topic: &[u8], out: &mut [u64]
 
 // The datatype of a name.
 #[no_mangle]
-pub extern "C" fn homie5_datatype_read(name: &[u8], out: &mut [u64]) -> u8
+pub extern "C" fn homie5_is_datatype(name: &[u8], out: &mut [u64]) -> u8
     ensures { λ r. ⌜ Told (λ a. named a ≡ datatypeNamed (now (name .entry))) showNamed (now (out .entry)) r (now (out .exit)) ⌝ }
 {
     let a = payload::read_datatype(name);
@@ -43,7 +43,7 @@ pub extern "C" fn homie5_datatype_read(name: &[u8], out: &mut [u64]) -> u8
 
 // Judges a format, or that none is given, and says what is kept of it.
 #[no_mangle]
-pub extern "C" fn homie5_format_judge(datatype: u8, given: u8, format: &[u8], out: &mut [u64]) -> u8
+pub extern "C" fn homie5_is_format(datatype: u8, given: u8, format: &[u8], out: &mut [u64]) -> u8
     ensures { λ r. ⌜ Told (λ a. keptBytes (now (format .entry)) a ≡ keptFormat (datatypeAt datatype) (asked (isSet given) (now (format .entry)))) showFormat (now (out .entry)) r (now (out .exit)) ⌝ }
 {
     let a = payload::judge_format(payload::datatype_at(datatype), given != 0, format);
@@ -52,7 +52,7 @@ pub extern "C" fn homie5_format_judge(datatype: u8, given: u8, format: &[u8], ou
 
 // Judges a payload by datatype and format.
 #[no_mangle]
-pub extern "C" fn homie5_payload_judge(datatype: u8, format: &[u8], payload: &[u8]) -> u8
+pub extern "C" fn homie5_is_payload(datatype: u8, format: &[u8], payload: &[u8]) -> u8
     ensures { λ r. ⌜ r ≡ bit (isPayload (datatypeAt datatype) (now (format .entry)) (now (payload .entry))) ⌝ }
 {
     if payload::judge(payload::datatype_at(datatype), format, payload) {

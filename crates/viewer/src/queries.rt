@@ -13,7 +13,7 @@ use rules::LaneKind;
 
 // How many devices there are.
 #[no_mangle]
-pub extern "C" fn homie5_count(mem: &[u8], out: &mut [u64]) -> u8
+pub extern "C" fn homie5_device_count(mem: &[u8], out: &mut [u64]) -> u8
     ensures { λ r. ⌜ Told (λ a. Did (question askCount) (now (mem .entry)) (now (mem .entry)) (saysNumber a)) showNumber (now (out .entry)) r (now (out .exit)) ⌝ }
 {
     let a = questions::count(mem);
@@ -22,7 +22,7 @@ pub extern "C" fn homie5_count(mem: &[u8], out: &mut [u64]) -> u8
 
 // The ID of the i-th device, from 0, by ascending ID bytes.
 #[no_mangle]
-pub extern "C" fn homie5_nth(mem: &[u8], i: usize, out: &mut [u64]) -> u8
+pub extern "C" fn homie5_device_at(mem: &[u8], i: usize, out: &mut [u64]) -> u8
     ensures { λ r. ⌜ Told (λ a. Asked (askNth i) (now (mem .entry)) (saysId (now (mem .entry)) a) (IdInside (length (now (mem .entry))) a)) showId (now (out .entry)) r (now (out .exit)) ⌝ }
 {
     let a = questions::nth(mem, i);
@@ -67,7 +67,7 @@ pub extern "C" fn homie5_version(mem: &[u8], id: &[u8], out: &mut [u64]) -> u8
 
 // How many properties of a device hold a value.
 #[no_mangle]
-pub extern "C" fn homie5_filled(mem: &[u8], id: &[u8], out: &mut [u64]) -> u8
+pub extern "C" fn homie5_values_held(mem: &[u8], id: &[u8], out: &mut [u64]) -> u8
     ensures { λ r. ⌜ Told (λ a. Did (question (askFilled (now (id .entry)))) (now (mem .entry)) (now (mem .entry)) (saysNumber a)) showNumber (now (out .entry)) r (now (out .exit)) ⌝ }
 {
     let a = questions::filled_of(mem, id);
@@ -113,7 +113,7 @@ pub extern "C" fn homie5_lane(
 
 // The time of the last message taken.
 #[no_mangle]
-pub extern "C" fn homie5_last(mem: &[u8], out: &mut [u64]) -> u8
+pub extern "C" fn homie5_last_time(mem: &[u8], out: &mut [u64]) -> u8
     ensures { λ r. ⌜ Told (λ a. Did (question askLast) (now (mem .entry)) (now (mem .entry)) (saysTime a)) showTime (now (out .entry)) r (now (out .exit)) ⌝ }
 {
     let a = questions::last_time(mem);

@@ -87,19 +87,19 @@ pub fn topic_flag(domain: &[u8], topic: &[u8], out: &mut [u64]) -> u8 {
 
 pub fn datatype_read(name: &[u8], out: &mut [u64]) -> u8 {
     fenced([name], |[name]| unsafe {
-        sys::homie5_datatype_read(name.as_ptr(), name.len(), out.as_mut_ptr(), out.len())
+        sys::homie5_is_datatype(name.as_ptr(), name.len(), out.as_mut_ptr(), out.len())
     })
 }
 
 pub fn format_judge(datatype: u8, given: u8, format: &[u8], out: &mut [u64]) -> u8 {
     fenced([format], |[format]| unsafe {
-        sys::homie5_format_judge(datatype, given, format.as_ptr(), format.len(), out.as_mut_ptr(), out.len())
+        sys::homie5_is_format(datatype, given, format.as_ptr(), format.len(), out.as_mut_ptr(), out.len())
     })
 }
 
 pub fn payload_judge(datatype: u8, format: &[u8], payload: &[u8]) -> u8 {
     fenced([format, payload], |[format, payload]| unsafe {
-        sys::homie5_payload_judge(datatype, format.as_ptr(), format.len(), payload.as_ptr(), payload.len())
+        sys::homie5_is_payload(datatype, format.as_ptr(), format.len(), payload.as_ptr(), payload.len())
     })
 }
 
@@ -154,11 +154,11 @@ pub fn step_back(mem: &mut [u8]) -> u8 {
 }
 
 pub fn count(mem: &[u8], out: &mut [u64]) -> u8 {
-    unsafe { sys::homie5_count(mem.as_ptr(), mem.len(), out.as_mut_ptr(), out.len()) }
+    unsafe { sys::homie5_device_count(mem.as_ptr(), mem.len(), out.as_mut_ptr(), out.len()) }
 }
 
 pub fn last(mem: &[u8], out: &mut [u64]) -> u8 {
-    unsafe { sys::homie5_last(mem.as_ptr(), mem.len(), out.as_mut_ptr(), out.len()) }
+    unsafe { sys::homie5_last_time(mem.as_ptr(), mem.len(), out.as_mut_ptr(), out.len()) }
 }
 
 pub fn steps(mem: &[u8], out: &mut [u64]) -> u8 {
@@ -166,7 +166,7 @@ pub fn steps(mem: &[u8], out: &mut [u64]) -> u8 {
 }
 
 pub fn nth(mem: &[u8], i: usize, out: &mut [u64]) -> u8 {
-    unsafe { sys::homie5_nth(mem.as_ptr(), mem.len(), i, out.as_mut_ptr(), out.len()) }
+    unsafe { sys::homie5_device_at(mem.as_ptr(), mem.len(), i, out.as_mut_ptr(), out.len()) }
 }
 
 pub fn states(mem: &[u8], id: &[u8], out: &mut [u64]) -> u8 {
@@ -186,7 +186,7 @@ pub fn version(mem: &[u8], id: &[u8], out: &mut [u64]) -> u8 {
 }
 
 pub fn filled(mem: &[u8], id: &[u8], out: &mut [u64]) -> u8 {
-    of_device(sys::homie5_filled, mem, id, out)
+    of_device(sys::homie5_values_held, mem, id, out)
 }
 
 pub fn property(mem: &[u8], id: &[u8], i: usize, out: &mut [u64]) -> u8 {

@@ -1,7 +1,7 @@
 use Rattle.viewer.proofs.Judged.{judged-yes, judged-no}
 use borrow.Author.Needs.{needs}
-use Rattle.viewer.proofs.judgements.homie5_payload_judge.Statement.{statement}
-use Rattle.viewer.proofs.judgements.homie5_payload_judge.Tie as tie
+use Rattle.viewer.proofs.judgements.homie5_is_payload.Statement.{statement}
+use Rattle.viewer.proofs.judgements.homie5_is_payload.Tie as tie
 
 datatype-at-requires : tie.Need-datatype-at-requires
 datatype-at-requires c κs = search needs
@@ -15,6 +15,6 @@ returns c = judged-yes _ _ (c .before .before .before .before .before .args .for
 returns-2 : tie.Need-returns-2
 returns-2 c = judged-no _ _ (c .before .before .before .before .before .args .format .now) (c .before .before .before .before .before .args .payload .now) _ (c .before .before .datatype-at .ensures) (c .before .judge .ensures) (c .if1 .left)
 
-pub homie5-payload-judge-spec : {M : Type 1} → statement M
-homie5-payload-judge-spec =
+pub homie5-is-payload-spec : {M : Type 1} → statement M
+homie5-is-payload-spec =
     tie.close (tie.spec datatype-at-requires judge-requires returns returns-2)
