@@ -10,6 +10,7 @@ use lib.Seq.{drop-cons, take-all, take-nil}
 use lib.Dec.{eqb}
 use borrow.Author.Tests.{ne-eqb, eq-eqb}
 use Rattle.json.specs.Bytes.{byte}
+use Rattle.json.specs.Strings.{stringAt}
 use Rattle.json.specs.Value.{valueAt}
 use Rattle.json.specs.declared.Scan.{Scan}
 use Rattle.json.specs.declared.Scan.the-variants.{End, Bad}
@@ -43,6 +44,9 @@ module _ (s : List ℕ) (k : ℕ) {r : Scan} (p : r ≡ valueAt 16 s k) where
   unfolding bytesAt
   bytes-some q x = x ∙ rw (sym p ∙ q, bytesAt)
 
+-- ---- a string's bytes
+
+module _ (s : List ℕ) (k : ℕ) {r : Scan} (p : r ≡ stringAt s k) where
   pub text-none : {e : ℕ} → r ≡ Bad e → [] ≡ textAt s k
   unfolding textAt
   text-none q = rw (sym p ∙ q, textAt)

@@ -4,6 +4,7 @@ use mathlib.Core.List.{List, [], _∷_}
 use mathlib.Core.Bool.{Bool, true, false, not, _&&_, _||_}
 use lib.Dec.{eqb}
 use Rattle.json.specs.Bytes.{byte}
+use Rattle.json.specs.Strings.{stringAt}
 use Rattle.json.specs.Value.{valueAt}
 use Rattle.json.specs.Members.{Member, membersAt, elementsAt}
 use Rattle.json.specs.declared.Scan.the-variants.{End, Bad}
@@ -16,9 +17,9 @@ use Rattle.fields.specs.declared.Kind.the-variants.{Text, Flag, Object, 
 unfoldable pub bytesAt : List ℕ → ℕ → List ℕ
 bytesAt s k = elim (valueAt 16 s k) [ End e ↦ part s k e | Bad e ↦ [] ]
 
--- the bytes between the quotes of the string at k: the string itself where there is no backslash
+-- the bytes between the quotes of the string at k: the string itself where there is no backslash. None where no string stands there
 unfoldable pub textAt : List ℕ → ℕ → List ℕ
-textAt s k = elim (valueAt 16 s k) [ End e ↦ part s (k + 1) (e - 1) | Bad e ↦ [] ]
+textAt s k = elim (stringAt s k) [ End e ↦ part s (k + 1) (e - 1) | Bad e ↦ [] ]
 
 unfoldable pub isText : List ℕ → ℕ → Bool
 isText s k = eqb (byte s k) 34

@@ -7,7 +7,7 @@ ghost use Prim.Native.Nat.{_+_};
 ghost use lib.Dec.{ltb};
 ghost use Rattle.text.specs.Bytes.{part};
 ghost use Rattle.fields.specs.Values.{bytesAt, textAt, isText, isObject, isArray, isTrue, isFlag, isPlain, isIdText, members, arrayOf, ofKind};
-ghost use Rattle.fields.specs.Parts.{itemTest};
+ghost use Rattle.fields.specs.Parts.{itemTest, Holds};
 ghost use Rattle.fields.specs.Fields.{oneMore, pairs, field, optional, flagIn, plainIn, plainNames};
 ghost use Rattle.fields.specs.Members.{pairsOf, fieldOf};
 
@@ -73,7 +73,7 @@ pub fn bytes_at(s: &[u8], k: usize) -> &[u8]
 pub fn text_at(s: &[u8], k: usize) -> &[u8]
     ensures { λ r. ⌜ now r ≡ textAt (now (s .entry)) k ⌝ }
 {
-    match json::value(s, k, 16) {
+    match json::string::string(s, k) {
         Scan::Bad(_) => &s[..0],
         Scan::End(e) => slice(s, k + 1, e - 1),
     }
@@ -187,9 +187,21 @@ fn plain_names(s: &[u8], at: usize) -> bool
 fn text_end(s: &[u8], k: usize) -> usize
     ensures { λ r. ⌜ part (now (s .entry)) (k + 1) r ≡ textAt (now (s .entry)) k ⌝ }
 {
-    match json::value(s, k, 16) {
+    match json::string::string(s, k) {
         Scan::Bad(_) => 0,
         Scan::End(e) => e - 1,
+    }
+}
+
+// The first `n` of some members of the object at `at`, or that there were too many.
+fn listed(at: usize, over: bool, n: usize, items: [MemberAt; 32]) -> Members
+    ensures { λ r. ⌜ Holds at over n items r ⌝ }
+{
+    Members {
+        at: at,
+        over: over,
+        n: n,
+        items: items,
     }
 }
 
@@ -205,32 +217,15 @@ pub fn members_of(s: &[u8], at: usize) -> Members
     let mut items = [none; 32];
     let mut n = 0;
     if json::peek(s, at) != 123 {
-        return Members {
-            at: at,
-            over: false,
-            n: n,
-            items: items,
-        };
+        return listed(at, false, n, items);
     }
     let mut i = json::skip(s, at + 1);
     loop {
         match json::member_at(s, i) {
-            Item::Done => {
-                return Members {
-                    at: at,
-                    over: false,
-                    n: n,
-                    items: items,
-                };
-            }
+            Item::Done => return listed(at, false, n, items),
             Item::At(k, _, next) => {
                 if n >= 32 {
-                    return Members {
-                        at: at,
-                        over: true,
-                        n: n,
-                        items: items,
-                    };
+                    return listed(at, true, n, items);
                 }
                 let x = MemberAt {
                     name: i + 1,

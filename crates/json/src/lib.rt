@@ -1,6 +1,6 @@
 // JSON texts (RFC 8259) as bytes: judging one, and walking through its objects and arrays.
 mod number;
-mod string;
+pub mod string;
 
 use number::number;
 use string::string;

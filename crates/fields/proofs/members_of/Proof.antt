@@ -21,8 +21,11 @@ abbrev μ-loop : tie.MeasureT-loop
 peek-requires : tie.Need-peek-requires Inv-loop μ-loop
 peek-requires c κs = search needs
 
+listed-requires : tie.Need-listed-requires Inv-loop μ-loop
+listed-requires c κs = search needs
+
 returns : tie.Need-returns Inv-loop μ-loop
-returns c = fill-none _ _ (c .before .peek .ensures) (c .if1 .taken) _ refl refl
+returns c = fill-none _ _ (c .before .before .peek .ensures) (c .before .if1 .taken) _ (c .listed .ensures .many) (c .listed .ensures .count)
 
 add-skip : tie.Need-add-skip Inv-loop μ-loop
 add-skip c = let h = inside= (c .before .before .before .args .s .now) _ 123 (sym (c .before .peek .ensures) ∙ c .if1 .left) (omega arith) in omega arith
@@ -39,14 +42,20 @@ member-at-requires c κs = search needs
 enum-told : tie.Need-enum-told Inv-loop μ-loop
 enum-told c = search needs
 
+listed-requires-2 : tie.Need-listed-requires-2 Inv-loop μ-loop
+listed-requires-2 c κs = search needs
+
 returns-2 : tie.Need-returns-2 Inv-loop μ-loop
-returns-2 c = fill-done _ _ _ _ _ (c .before .before .before .loop .inv) (sym (c .before .before .member-at .ensures .is) ∙ c .enum-told .given .1) _ refl refl refl
+returns-2 c = let l = c .listed2 .ensures in fill-done _ _ _ _ _ (c .before .before .before .before .loop .inv) (sym (c .before .before .before .member-at .ensures .is) ∙ c .before .enum-told .given .1) _ (l .many) (l .count) (l .members)
 
 enum-known-k : tie.Need-enum-known-k Inv-loop μ-loop
 enum-known-k c = search needs
 
+listed-requires-3 : tie.Need-listed-requires-3 Inv-loop μ-loop
+listed-requires-3 c κs = search needs
+
 returns-3 : tie.Need-returns-3 Inv-loop μ-loop
-returns-3 c = shows-object _ _ refl refl
+returns-3 c = shows-object _ _ (c .listed3 .ensures .many) (c .listed3 .ensures .place)
 
 add-items : tie.Need-add-items Inv-loop μ-loop
 add-items c = let l = (gets _ (c .before .before .before .before .member-at .ensures) (c .before .before .k .given .1)) .lies in omega arith
@@ -76,14 +85,17 @@ members-of-spec =
     Inv-loop
     μ-loop
     peek-requires
+    listed-requires
     returns
     add-skip
     skip-requires
     loop-holds
     member-at-requires
     enum-told
+    listed-requires-2
     returns-2
     enum-known-k
+    listed-requires-3
     returns-3
     add-items
     text-end-requires

@@ -5,8 +5,8 @@ use borrow.Author.Needs.{needs}
 use Rattle.fields.proofs.text_at.Statement.{statement}
 use Rattle.fields.proofs.text_at.Tie as tie
 
-value-requires : tie.Need-value-requires
-value-requires c κs = search needs
+string-requires : tie.Need-string-requires
+string-requires c κs = search needs
 
 enum-told : tie.Need-enum-told
 enum-told c = search needs
@@ -18,25 +18,25 @@ enum-known-e : tie.Need-enum-known-e
 enum-known-e c = search needs
 
 add-slice : tie.Need-add-slice
-add-slice c = let l = told _ (c .before .before .before .value .ensures) (c .before .e .given .1) in let m = l .lies in omega arith
+add-slice c = let l = told _ (c .before .before .before .string .ensures) (c .before .e .given .1) in let m = l .lies in omega arith
 
 sub-slice : tie.Need-sub-slice
-sub-slice c = let l = told _ (c .before .before .before .value .ensures) (c .before .e .given .1) in let m = l .lies in omega arith
+sub-slice c = let l = told _ (c .before .before .before .string .ensures) (c .before .e .given .1) in let m = l .lies in omega arith
 
 slice-requires : tie.Need-slice-requires
 slice-requires c κs = search needs
 
 returns : tie.Need-returns
-returns c = text-none _ _ (c .before .before .before .value .ensures .is) (c .before .enum-told .given .1)
+returns c = text-none _ _ (c .before .before .before .string .ensures .is) (c .before .enum-told .given .1)
 
 returns-2 : tie.Need-returns-2
-returns-2 c = text-some _ _ (c .before .before .before .before .value .ensures .is) (c .before .before .e .given .1) (c .slice .ensures)
+returns-2 c = text-some _ _ (c .before .before .before .before .string .ensures .is) (c .before .before .e .given .1) (c .slice .ensures)
 
 pub text-at-spec : {M : Type 1} → statement M
 text-at-spec =
     tie.close
     (tie.spec
-    value-requires
+    string-requires
     enum-told
     slice-aggregate-result
     enum-known-e
