@@ -159,7 +159,7 @@ fn two(s: &[u8], at: usize, a: u64, b: u64) -> bool
     s.len() < n
 }
 
-pub fn is_color(format: &[u8], s: &[u8]) -> bool
+fn is_color(format: &[u8], s: &[u8]) -> bool
     ensures { λ r. ⌜ r ≡ isColor (now (format .entry)) (now (s .entry)) ⌝ }
 {
     let Part::Found { start, end, next } = text::next_part(s, 0, b',') else {

@@ -5,55 +5,96 @@ use mathlib.Core.Bool.{Bool, true, false, cond}
 use Prim.Native.Nat.{ℕ, zero, suc, _≤_, _<_}
 use native.Mathlib.Omega.{arith}
 use lib.ListN.{length, take, getD}
+use lib.Dec.{ltb}
 use mir.Val.{boolByte}
 use Rattle.payload.specs.Datatypes.{codeOf}
+use Rattle.payload.specs.declared.Format.{Format}
+use Rattle.payload.specs.declared.Format.the-variants.{AsGiven}
+use Rattle.fields.specs.Values.{textAt}
+use Rattle.fields.specs.Fields.{textIn}
+use Rattle.fields.specs.declared.Field.{Field}
+use Rattle.fields.specs.declared.Field.the-variants.{One}
+use Rattle.properties.specs.Property.{textOf}
 use Rattle.properties.specs.declared.Entry.{Entry}
 use Rattle.description.specs.declared.Description.{Description}
 use Rattle.reply.specs.Reply.{Reply, says, refuses, bit}
-use Rattle.reply.specs.Descriptions.{there, place, keptNumber, entryValues, entryAt, showDescription, showDeclared}
+use Rattle.reply.specs.Descriptions.{presence, place, isGiven, keptNumber, formatPlace, entryValues, entryAt, showDescription, showDeclared}
 use Rattle.reply.proofs.Shown.{as-bit}
 
 pub description-refused : (d : Description) → d .taken ≡ false → showDescription d ≡ refuses 15
 unfolding showDescription
 description-refused d h = rw h
 
-pub description-shown : (d : Description) (x y z w : ℕ) → d .taken ≡ true → x ≡ there (d .root) → y ≡ place (d .root) → z ≡ there (d .parent) → w ≡ place (d .parent) → showDescription d ≡ says (d .version ∷ x ∷ y ∷ z ∷ w ∷ d .properties .n ∷ [])
+pub description-shown : (d : Description) (x y z w : ℕ) → d .taken ≡ true → x ≡ presence (d .root) → y ≡ place (d .root) → z ≡ presence (d .parent) → w ≡ place (d .parent) → showDescription d ≡ says (d .version ∷ x ∷ y ∷ z ∷ w ∷ d .properties .n ∷ [])
 unfolding showDescription
 description-shown d x y z w h a b c e = rw (h, a, b, c, e)
 
-pub entry-shown : (e : Entry) (c k t p : ℕ) → c ≡ codeOf (e .datatype) → k ≡ keptNumber (e .kept) → t ≡ there (e .format) → p ≡ place (e .format) → says (entryValues e) ≡ says (e .node ∷ e .id ∷ c ∷ k ∷ t ∷ p ∷ boolByte (e .settable) ∷ boolByte (e .retained) ∷ [])
+-- ---- a property's format
+
+pub given-told : (s : List ℕ) (f x : Field) → f ≡ x → isGiven s x ≡ isGiven s f
+given-told s f x e = ap (isGiven s) (sym e)
+
+pub given-one : (s t : List ℕ) (f : Field) (k : ℕ) → f ≡ One k → t ≡ textAt s k → ltb 0 (length t) ≡ isGiven s f
+unfolding isGiven textOf textIn
+given-one s t f k e h = ap (λ (u : List ℕ). ltb 0 (length u)) h ∙ given-told s f (One k) e
+
+module _ (k : Format) (given : Bool) where
+  pub kept-told : (x : Format) → k ≡ x → keptNumber x given ≡ keptNumber k given
+  kept-told x e = ap (λ (f : Format). keptNumber f given) (sym e)
+
+  pub kept-given : k ≡ AsGiven → given ≡ true → 0 ≡ keptNumber k given
+  unfolding keptNumber
+  kept-given e g = rw (e, g)
+
+  pub kept-none : k ≡ AsGiven → given ≡ false → 3 ≡ keptNumber k given
+  unfolding keptNumber
+  kept-none e g = rw (e, g)
+
+module _ (k : Format) (given : Bool) (f : Field) where
+  pub place-told : (x : Format) → k ≡ x → formatPlace x given f ≡ formatPlace k given f
+  place-told x e = ap (λ (y : Format). formatPlace y given f) (sym e)
+
+  pub place-given : (p : ℕ) → k ≡ AsGiven → given ≡ true → p ≡ place f → p ≡ formatPlace k given f
+  unfolding formatPlace
+  place-given p e g h = h ∙ rw (e, g)
+
+  pub place-none : k ≡ AsGiven → given ≡ false → 0 ≡ formatPlace k given f
+  unfolding formatPlace
+  place-none e g = rw (e, g)
+
+pub entry-shown : (s : List ℕ) (e : Entry) (c k p : ℕ) (g : Bool) → c ≡ codeOf (e .datatype) → g ≡ isGiven s (e .format) → k ≡ keptNumber (e .kept) g → p ≡ formatPlace (e .kept) g (e .format) → says (entryValues s e) ≡ says (e .node ∷ e .id ∷ c ∷ k ∷ p ∷ boolByte (e .settable) ∷ boolByte (e .retained) ∷ [])
 unfolding entryValues
-entry-shown e c k t p a b g h = rw (a, b, g, h, as-bit (e .settable), as-bit (e .retained))
+entry-shown s e c k p g a b h j = rw (a, h, j, b, as-bit (e .settable), as-bit (e .retained))
 
 -- ---- the i-th
 
-pub none-at : (l : List Entry) (n i : ℕ) → n ≤ i → entryAt (take n l) i ≡ refuses 3
+pub none-at : (s : List ℕ) (l : List Entry) (n i : ℕ) → n ≤ i → entryAt s (take n l) i ≡ refuses 3
 unfolding entryAt
-none-at [] zero i h = refl
-none-at [] (suc n) i h = refl
-none-at (e ∷ l) zero i h = refl
-none-at (e ∷ l) (suc n) zero h = absurd (omega arith)
-none-at (e ∷ l) (suc n) (suc i) h = none-at l n i (omega arith)
+none-at s [] zero i h = refl
+none-at s [] (suc n) i h = refl
+none-at s (e ∷ l) zero i h = refl
+none-at s (e ∷ l) (suc n) zero h = absurd (omega arith)
+none-at s (e ∷ l) (suc n) (suc i) h = none-at s l n i (omega arith)
 
-pub none-past : (l : List Entry) (n i : ℕ) → length l ≤ i → entryAt (take n l) i ≡ refuses 3
+pub none-past : (s : List ℕ) (l : List Entry) (n i : ℕ) → length l ≤ i → entryAt s (take n l) i ≡ refuses 3
 unfolding entryAt
-none-past [] zero i h = refl
-none-past [] (suc n) i h = refl
-none-past (e ∷ l) zero i h = refl
-none-past (e ∷ l) (suc n) zero h = absurd (omega arith)
-none-past (e ∷ l) (suc n) (suc i) h = none-past l n i (omega arith)
+none-past s [] zero i h = refl
+none-past s [] (suc n) i h = refl
+none-past s (e ∷ l) zero i h = refl
+none-past s (e ∷ l) (suc n) zero h = absurd (omega arith)
+none-past s (e ∷ l) (suc n) (suc i) h = none-past s l n i (omega arith)
 
-pub one-at : (l : List Entry) (n i : ℕ) (x : Entry) → i < n → i < length l → entryAt (take n l) i ≡ says (entryValues (getD l i x))
+pub one-at : (s : List ℕ) (l : List Entry) (n i : ℕ) (x : Entry) → i < n → i < length l → entryAt s (take n l) i ≡ says (entryValues s (getD l i x))
 unfolding entryAt
-one-at [] n i x h k = absurd (omega arith)
-one-at (e ∷ l) zero i x h k = absurd (omega arith)
-one-at (e ∷ l) (suc n) zero x h k = refl
-one-at (e ∷ l) (suc n) (suc i) x h k = one-at l n i x (omega arith) (omega arith)
+one-at s [] n i x h k = absurd (omega arith)
+one-at s (e ∷ l) zero i x h k = absurd (omega arith)
+one-at s (e ∷ l) (suc n) zero x h k = refl
+one-at s (e ∷ l) (suc n) (suc i) x h k = one-at s l n i x (omega arith) (omega arith)
 
-pub declared-refused : (d : Description) (i : ℕ) → d .taken ≡ false → showDeclared d i ≡ refuses 15
+pub declared-refused : (s : List ℕ) (d : Description) (i : ℕ) → d .taken ≡ false → showDeclared s d i ≡ refuses 15
 unfolding showDeclared
-declared-refused d i h = rw h
+declared-refused s d i h = rw h
 
-pub declared-shown : (d : Description) (i : ℕ) → d .taken ≡ true → showDeclared d i ≡ entryAt (take (d .properties .n) (d .properties .items)) i
+pub declared-shown : (s : List ℕ) (d : Description) (i : ℕ) → d .taken ≡ true → showDeclared s d i ≡ entryAt s (take (d .properties .n) (d .properties .items)) i
 unfolding showDeclared
-declared-shown d i h = rw h
+declared-shown s d i h = rw h

@@ -1,3 +1,4 @@
 pub mod Out
 pub mod Shown
 pub mod Declared
+pub mod Theorems

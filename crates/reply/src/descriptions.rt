@@ -2,7 +2,7 @@
 ghost use mathlib.Core.Path.{_≡_};
 ghost use lib.ListN.{take};
 ghost use Rattle.reply.specs.Reply.{Replied, says};
-ghost use Rattle.reply.specs.Descriptions.{there, place, keptNumber, entryValues, entryAt, showDescription, showDeclared};
+ghost use Rattle.reply.specs.Descriptions.{presence, place, isGiven, keptNumber, formatPlace, entryValues, entryAt, showDescription, showDeclared};
 use crate::tell;
 use description::Description;
 use fields::Field;
@@ -10,8 +10,8 @@ use payload::Format;
 use properties::Entries;
 use properties::Entry;
 
-fn is_there(f: Field) -> u64
-    ensures { λ r. ⌜ r ≡ there f ⌝ }
+fn presence_of(f: Field) -> u64
+    ensures { λ r. ⌜ r ≡ presence f ⌝ }
 {
     match f {
         Field::Absent => 0,
@@ -42,50 +42,86 @@ pub fn tell_description(out: &mut [u64], d: Description) -> u8
     let l = d.properties;
     let vs = [
         d.version,
-        is_there(root),
+        presence_of(root),
         place_of(root),
-        is_there(parent),
+        presence_of(parent),
         place_of(parent),
         l.n as u64,
     ];
     tell(out, &vs)
 }
 
-fn kept_number(f: Format) -> u64
-    ensures { λ r. ⌜ r ≡ keptNumber f ⌝ }
+// Whether a format with bytes stands in the text.
+fn is_given(s: &[u8], f: Field) -> bool
+    ensures { λ r. ⌜ r ≡ isGiven (now (s .entry)) f ⌝ }
+{
+    match f {
+        Field::Absent => false,
+        Field::One(k) => {
+            let t = fields::text_at(s, k);
+            0 < t.len()
+        }
+        Field::Twice => false,
+    }
+}
+
+fn kept_number(f: Format, given: bool) -> u64
+    ensures { λ r. ⌜ r ≡ keptNumber f given ⌝ }
 {
     match f {
         Format::Bad => 3,
-        Format::AsGiven => 0,
+        Format::AsGiven => {
+            if given {
+                return 0;
+            }
+            3
+        }
         Format::Colon => 1,
         Format::FalseTrue => 2,
         Format::NotKept => 3,
     }
 }
 
-fn tell_entry(out: &mut [u64], e: Entry) -> u8
-    ensures { λ r. ⌜ Replied (says (entryValues e)) (now (out .entry)) r (now (out .exit)) ⌝ }
+fn format_place(f: Format, given: bool, at: Field) -> u64
+    ensures { λ r. ⌜ r ≡ formatPlace f given at ⌝ }
+{
+    match f {
+        Format::Bad => 0,
+        Format::AsGiven => {
+            if given {
+                return place_of(at);
+            }
+            0
+        }
+        Format::Colon => 0,
+        Format::FalseTrue => 0,
+        Format::NotKept => 0,
+    }
+}
+
+fn tell_entry(out: &mut [u64], s: &[u8], e: Entry) -> u8
+    ensures { λ r. ⌜ Replied (says (entryValues (now (s .entry)) e)) (now (out .entry)) r (now (out .exit)) ⌝ }
 {
     let datatype = e.datatype;
     let kept = e.kept;
     let format = e.format;
-    let s = e.settable;
-    let r = e.retained;
+    let given = is_given(s, format);
+    let settable = e.settable;
+    let retained = e.retained;
     let vs = [
         e.node as u64,
         e.id as u64,
         payload::datatype_code(datatype) as u64,
-        kept_number(kept),
-        is_there(format),
-        place_of(format),
-        s as u64,
-        r as u64,
+        kept_number(kept, given),
+        format_place(kept, given, format),
+        settable as u64,
+        retained as u64,
     ];
     tell(out, &vs)
 }
 
-fn tell_item(out: &mut [u64], l: Entries, i: usize) -> u8
-    ensures { λ r. ⌜ Replied (entryAt (take (l .n) (l .items)) i) (now (out .entry)) r (now (out .exit)) ⌝ }
+fn tell_item(out: &mut [u64], s: &[u8], l: Entries, i: usize) -> u8
+    ensures { λ r. ⌜ Replied (entryAt (now (s .entry)) (take (l .n) (l .items)) i) (now (out .entry)) r (now (out .exit)) ⌝ }
 {
     if i >= l.n {
         return 3;
@@ -95,17 +131,17 @@ fn tell_item(out: &mut [u64], l: Entries, i: usize) -> u8
     }
     let items = l.items;
     let e = items[i];
-    tell_entry(out, e)
+    tell_entry(out, s, e)
 }
 
-// The i-th property that a description declares, from 0.
-pub fn tell_declared(out: &mut [u64], d: Description, i: usize) -> u8
-    ensures { λ r. ⌜ Replied (showDeclared d i) (now (out .entry)) r (now (out .exit)) ⌝ }
+// The i-th property that a description of the text `s` declares, from 0.
+pub fn tell_declared(out: &mut [u64], s: &[u8], d: Description, i: usize) -> u8
+    ensures { λ r. ⌜ Replied (showDeclared (now (s .entry)) d i) (now (out .entry)) r (now (out .exit)) ⌝ }
 {
     let taken = d.taken;
     if !taken {
         return 15;
     }
     let l = d.properties;
-    tell_item(out, l, i)
+    tell_item(out, s, l, i)
 }

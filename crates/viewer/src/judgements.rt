@@ -89,8 +89,8 @@ pub extern "C" fn homie5_description_property(
     i: usize,
     out: &mut [u64],
 ) -> u8
-    ensures { λ r. ⌜ Told (λ a. meaning (now (text .entry)) a ≡ describe (now (own .entry)) (now (text .entry))) (λ a. showDeclared a i) (now (out .entry)) r (now (out .exit)) ⌝ }
+    ensures { λ r. ⌜ Told (λ a. meaning (now (text .entry)) a ≡ describe (now (own .entry)) (now (text .entry))) (λ a. showDeclared (now (text .entry)) a i) (now (out .entry)) r (now (out .exit)) ⌝ }
 {
     let d = description::describe(own, text);
-    reply::descriptions::tell_declared(out, d, i)
+    reply::descriptions::tell_declared(out, text, d, i)
 }

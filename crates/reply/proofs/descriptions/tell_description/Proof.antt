@@ -8,14 +8,14 @@ use Rattle.reply.proofs.descriptions.tell_description.Tie as tie
 returns : tie.Need-returns
 returns c = refusal _ 15 _ (description-refused _ (not-true _ (c .if1 .taken)))
 
-is-there-requires : tie.Need-is-there-requires
-is-there-requires c κs = search needs
+presence-of-requires : tie.Need-presence-of-requires
+presence-of-requires c κs = search needs
 
 place-of-requires : tie.Need-place-of-requires
 place-of-requires c κs = search needs
 
-is-there-requires-2 : tie.Need-is-there-requires-2
-is-there-requires-2 c κs = search needs
+presence-of-requires-2 : tie.Need-presence-of-requires-2
+presence-of-requires-2 c κs = search needs
 
 place-of-requires-2 : tie.Need-place-of-requires-2
 place-of-requires-2 c κs = search needs
@@ -30,16 +30,16 @@ same-length : tie.Need-same-length
 same-length c = search needs
 
 returns-2 : tie.Need-returns-2
-returns-2 c = reply-as _ _ _ _ _ (description-shown _ _ _ _ _ (not-false _ (c .before .before .before .before .before .before .before .before .before .before .if1 .left)) (c .before .before .before .before .before .before .before .before .is-there .ensures) (c .before .before .before .before .before .before .before .place-of .ensures) (c .before .before .before .before .before .before .is-there2 .ensures) (c .before .before .before .before .before .place-of2 .ensures)) (c .before .before .tell .ensures)
+returns-2 c = reply-as _ _ _ _ _ (description-shown _ _ _ _ _ (not-false _ (c .before .before .before .before .before .before .before .before .before .before .if1 .left)) (c .before .before .before .before .before .before .before .before .presence-of .ensures) (c .before .before .before .before .before .before .before .place-of .ensures) (c .before .before .before .before .before .before .presence-of2 .ensures) (c .before .before .before .before .before .place-of2 .ensures)) (c .before .before .tell .ensures)
 
 pub tell-description-spec : {M : Type 1} → statement M
 tell-description-spec =
     tie.close
     (tie.spec
     returns
-    is-there-requires
+    presence-of-requires
     place-of-requires
-    is-there-requires-2
+    presence-of-requires-2
     place-of-requires-2
     slice-aggregate-tell
     tell-requires

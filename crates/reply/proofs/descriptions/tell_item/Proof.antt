@@ -7,10 +7,10 @@ use Rattle.reply.proofs.descriptions.tell_item.Statement.{statement}
 use Rattle.reply.proofs.descriptions.tell_item.Tie as tie
 
 returns : tie.Need-returns
-returns c = let a = c .before .before .before .args in refusal _ 3 _ (none-at (a .l .items) (a .l .n) (a .i) (omega (arith, c .if1 .taken)))
+returns c = let a = c .before .before .before .before .args in refusal _ 3 _ (none-at (a .s .now) (a .l .items) (a .l .n) (a .i) (omega (arith, c .if1 .taken)))
 
 returns-2 : tie.Need-returns-2
-returns-2 c = let a = c .before .before .before .before .args in refusal _ 3 _ (none-past (a .l .items) (a .l .n) (a .i) (omega (arith, full (a .l) _ (c .before .before .before .before .good .1 .0), c .if2 .taken)))
+returns-2 c = let a = c .before .before .before .before .before .args in refusal _ 3 _ (none-past (a .s .now) (a .l .items) (a .l .n) (a .i) (omega (arith, full (a .l) _ (c .before .before .before .before .before .good .1 .1 .0), c .if2 .taken)))
 
 mul-e : tie.Need-mul-e
 mul-e c = search needs
@@ -25,7 +25,7 @@ same-length : tie.Need-same-length
 same-length c = search needs
 
 returns-3 : tie.Need-returns-3
-returns-3 c = let a = c .before .before .before .before .before .before .before .before .before .before .args in reply-as _ _ _ _ _ (one-at (a .l .items) (a .l .n) (a .i) _ (omega (arith, c .before .before .before .before .before .before .before .if1 .left)) (omega (arith, full (a .l) _ (c .before .before .before .before .before .before .before .before .before .before .good .1 .0), c .before .before .before .before .before .before .if2 .left))) (c .before .before .tell-entry .ensures)
+returns-3 c = let a = c .before .before .before .before .before .before .before .before .before .before .before .args in reply-as _ _ _ _ _ (one-at (a .s .now) (a .l .items) (a .l .n) (a .i) _ (omega (arith, c .before .before .before .before .before .before .before .if1 .left)) (omega (arith, full (a .l) _ (c .before .before .before .before .before .before .before .before .before .before .before .good .1 .1 .0), c .before .before .before .before .before .before .if2 .left))) (c .before .before .tell-entry .ensures)
 
 pub tell-item-spec : {M : Type 1} → statement M
 tell-item-spec =
