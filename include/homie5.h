@@ -170,16 +170,15 @@ uint8_t homie5_description_judge(const uint8_t *own, size_t own_len, const uint8
 /*
  * What a description of the device of the ID `own` declares. Values: its version plus 2^63; 1 and where its root stands
  * in the text, else 0 and 0; the same of its parent; how many properties it declares (6 numbers). Refusals: 15.
- * A string stands where its opening quote is and ends before the next quote: none of those shown has a backslash, but
- * for a format that is not kept.
+ * A string stands where its opening quote is and ends before the next quote: none of those shown has a backslash.
  */
 uint8_t homie5_description_read(const uint8_t *own, size_t own_len, const uint8_t *text, size_t text_len,
                                 uint64_t *out, size_t out_len);
 
 /*
  * The i-th property that a description declares, from 0, by node ID, then property ID. Values: where its node's ID and
- * its own stand in the text; its datatype; what is kept of its format, HOMIE5_KEPT_..; 1 and where its format stands,
- * else 0 and 0; 1 where it is settable; 1 where it is retained (8 numbers). Refusals: 15, 3.
+ * its own stand in the text; its datatype; what is kept of its format, HOMIE5_KEPT_..; where its format stands, if that
+ * is HOMIE5_KEPT_AS_GIVEN, else 0; 1 where it is settable; 1 where it is retained (7 numbers). Refusals: 15, 3.
  */
 uint8_t homie5_description_property(const uint8_t *own, size_t own_len, const uint8_t *text, size_t text_len, size_t i,
                                     uint64_t *out, size_t out_len);

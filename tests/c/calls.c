@@ -99,13 +99,15 @@ static void descriptions(void)
     const char *child = "{\"version\":-1,\"homie\":\"5.0\",\"root\":\"hub\",\"parent\":\"hall\"}";
     const char *mode = "{\"homie\":\"5.0\",\"version\":1,\"nodes\":{\"n\":{\"properties\":{\"p\":{\"datatype\":\"enum\",\"format\":\"a,b\",\"settable\":true,"
                        "\"retained\":false}}}}}";
+    const char *not_kept = "{\"homie\":\"5.0\",\"version\":1,\"nodes\":{\"n\":{\"properties\":{\"p\":{\"datatype\":\"string\",\"format\":\"\\\"\"}}}}}";
     assert(homie5_description_judge(LAMP, TEXT("{}")) == HOMIE5_BAD_DESCRIPTION);
     assert(homie5_description_judge(LAMP, TEXT(lamp)) == HOMIE5_OK);
     ANSWERS(HOMIE5_OK, homie5_description_read(LAMP, TEXT(lamp), out, out_len), ((uint64_t)1 << 63) + 1, 0, 0, 0, 0, 1);
     ANSWERS(HOMIE5_OK, homie5_description_read(LAMP, TEXT(child), out, out_len), ((uint64_t)1 << 63) - 1, 1, 35, 1, 50, 0);
     REFUSES(HOMIE5_BAD_DESCRIPTION, homie5_description_read(TEXT("hub"), TEXT(child), out, out_len));
-    ANSWERS(HOMIE5_OK, homie5_description_property(LAMP, TEXT(lamp), 0, out, out_len), 36, 59, HOMIE5_DATATYPE_BOOLEAN, HOMIE5_KEPT_FALSE_TRUE, 0, 0, 1, 1);
-    ANSWERS(HOMIE5_OK, homie5_description_property(LAMP, TEXT(mode), 0, out, out_len), 36, 55, HOMIE5_DATATYPE_ENUM, HOMIE5_KEPT_AS_GIVEN, 1, 87, 1, 0);
+    ANSWERS(HOMIE5_OK, homie5_description_property(LAMP, TEXT(lamp), 0, out, out_len), 36, 59, HOMIE5_DATATYPE_BOOLEAN, HOMIE5_KEPT_FALSE_TRUE, 0, 1, 1);
+    ANSWERS(HOMIE5_OK, homie5_description_property(LAMP, TEXT(mode), 0, out, out_len), 36, 55, HOMIE5_DATATYPE_ENUM, HOMIE5_KEPT_AS_GIVEN, 87, 1, 0);
+    ANSWERS(HOMIE5_OK, homie5_description_property(LAMP, TEXT(not_kept), 0, out, out_len), 36, 55, HOMIE5_DATATYPE_STRING, HOMIE5_KEPT_NOTHING, 0, 0, 1);
     REFUSES(HOMIE5_NO_SUCH_NUMBER, homie5_description_property(LAMP, TEXT(lamp), 1, out, out_len));
     REFUSES(HOMIE5_BAD_DESCRIPTION, homie5_description_property(LAMP, TEXT("{}"), 0, out, out_len));
     assert(homie5_version_number(0) == INT64_MIN && homie5_version_number(UINT64_MAX) == INT64_MAX);

@@ -65,14 +65,15 @@ impl<'a> Description<'a> {
     /// The i-th property, from 0, by node ID, then property ID. Refuses with `NoSuchNumber`.
     pub fn property(&self, i: usize) -> Result<Property<'a>, Refusal> {
         let values = call::description_property(self.own, self.text, i)?;
-        let format = if values.flag(4) { values.string(5, self.text) } else { b"" };
+        let kept = values.one_of(3, Kept::from_number);
+        let format = if kept == Kept::AsGiven { values.string(4, self.text) } else { b"" };
         Ok(Property {
             node: values.string(0, self.text),
             id: values.string(1, self.text),
             datatype: values.one_of(2, Datatype::from_number),
-            format: values.one_of(3, Kept::from_number).of(format),
-            settable: values.flag(6),
-            retained: values.flag(7),
+            format: kept.of(format),
+            settable: values.flag(5),
+            retained: values.flag(6),
         })
     }
 }

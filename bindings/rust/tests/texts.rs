@@ -59,6 +59,23 @@ fn kept_formats() {
 }
 
 #[test]
+fn formats_that_are_not_kept_are_not_shown() {
+    let fields = [
+        (r#""datatype":"string","format":"\"x\\""#, Datatype::String, &b""[..]),
+        (r#""datatype":"float""#, Datatype::Float, b":"),
+        (r#""datatype":"boolean""#, Datatype::Boolean, b"false,true"),
+        (r#""format":"off,on","datatype":"boolean""#, Datatype::Boolean, b"off,on"),
+    ];
+    for (fields, datatype, format) in fields {
+        let nodes = format!(r#"{{"n":{{"properties":{{"p":{{{fields}}}}}}}}}"#);
+        let text = format!(r#"{{"homie":"5.0","version":1,"nodes":{nodes}}}"#);
+        let read = Description::read(b"lamp", text.as_bytes()).unwrap().property(0).unwrap();
+        assert_eq!((read.datatype, read.format), (datatype, format));
+        assert_eq!((read.node, read.id, read.settable, read.retained), (&b"n"[..], &b"p"[..], false, true));
+    }
+}
+
+#[test]
 fn descriptions_declare() {
     let read = Description::read(b"lamp", DESCRIPTION.as_bytes()).unwrap();
     assert_eq!((read.version, read.root, read.parent), (i64::MIN, Some(&b"hub"[..]), Some(&b"hall"[..])));

@@ -47,7 +47,7 @@ fn one(random: &mut Random, own: &[u8], text: &[u8], tally: &mut Tally) -> Outco
     for i in numbers(random, properties.len()) {
         let number = if expected.is_none() { DESCRIPTION } else { properties.get(i).map_or(NUMBER, |_| 0) };
         tally.count("description_property", number);
-        let values = asked(random, number, 8, |out| raw::description_property(own, text, i, out))
+        let values = asked(random, number, 7, |out| raw::description_property(own, text, i, out))
             .map_err(|fault| format!("property {i}: {fault}"))?;
         if let Some(property) = properties.get(i) {
             is_property(text, &values, property).map_err(|fault| format!("property {i}: {values:?}: {fault}"))?;
@@ -92,15 +92,16 @@ fn is_head(text: &[u8], values: &[u64], expected: &Description) -> Outcome {
 }
 
 fn is_property(text: &[u8], values: &[u64], expected: &Property) -> Outcome {
-    let format = declared_format(text, expected);
-    let (given, kept) = (&values[4..6], kept(expected, format.is_some()));
+    let kept = kept(expected, has_format(text, expected));
+    let as_given = kept == 0;
+    let (shown, format) = ([u64::from(as_given), values[4]], as_given.then_some(&expected.format[..]));
     require(string_at(text, values[0]) == Some(&expected.node), "the node's ID")?;
     require(string_at(text, values[1]) == Some(&expected.id) && values[1] > values[0], "the property's ID")?;
     require(is_member(text, values[0]) && is_member(text, values[1]), "where the IDs stand")?;
     require(values[2] == datatype_number(expected.datatype), "the datatype")?;
     require(values[3] == kept, "what is kept of the format")?;
-    require(is_optional(text, given, format.as_deref()) && is_field(text, given, "format"), "the format")?;
-    require(values[6..8] == [expected.settable, expected.retained].map(u64::from), "a flag")
+    require(is_optional(text, &shown, format) && is_field(text, &shown, "format"), "the format")?;
+    require(values[5..7] == [expected.settable, expected.retained].map(u64::from), "a flag")
 }
 
 /// Its own bytes, `:`, `false,true` or nothing.
@@ -112,14 +113,11 @@ fn kept(property: &Property, given: bool) -> u64 {
     }
 }
 
-/// The format of a property as it stands in the text, kept or not.
-fn declared_format(text: &[u8], property: &Property) -> Option<Vec<u8>> {
-    let document = json::read(text)?;
+/// Whether the text gives the format of a property, kept or not.
+fn has_format(text: &[u8], property: &Property) -> bool {
     let names: [&[u8]; 5] = [b"nodes", &property.node, b"properties", &property.id, b"format"];
-    match names.iter().try_fold(&document, |value, name| member(value, name))? {
-        Value::Text(format) => Some(format.clone()),
-        _ => None,
-    }
+    let format = |document: Value| names.iter().try_fold(&document, |value, name| member(value, name)).is_some();
+    json::read(text).is_some_and(format)
 }
 
 fn member<'a>(value: &'a Value, name: &[u8]) -> Option<&'a Value> {
@@ -131,14 +129,10 @@ fn member<'a>(value: &'a Value, name: &[u8]) -> Option<&'a Value> {
 
 // Places in the text
 
-/// The string whose opening quote stands at a place: its bytes up to the closing one.
+/// The string whose opening quote stands at a place: its bytes up to the next quote.
 fn string_at(text: &[u8], at: u64) -> Option<&[u8]> {
     let rest = text.get(usize::try_from(at).ok()?..)?.strip_prefix(b"\"")?;
-    let mut end = 0;
-    while *rest.get(end)? != b'"' {
-        end += if rest[end] == b'\\' { 2 } else { 1 };
-    }
-    rest.get(..end)
+    rest.get(..rest.iter().position(|&byte| byte == b'"')?)
 }
 
 /// 1 and where the string stands, or 0 and 0.
