@@ -3,12 +3,8 @@
 use homie5::sys;
 use reference::trace::Event;
 
-/// The most values of an answer.
-pub type Values = [u64; 9];
-
-pub fn room(devices: usize, depth: usize) -> usize {
-    8192 * (devices + depth + 1)
-}
+/// Room for every value of an answer.
+pub type Values = [u64; sys::HOMIE5_VALUES];
 
 pub fn open(mem: &mut [u8], domain: &[u8], devices: usize, depth: usize) -> u8 {
     unsafe { sys::homie5_open(mem.as_mut_ptr(), mem.len(), domain.as_ptr(), domain.len(), devices, depth) }

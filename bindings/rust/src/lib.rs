@@ -28,7 +28,8 @@
 //! ```
 //!
 //! Every call answers, or refuses with a [`Refusal`] and alters nothing. Byte strings are slices of what was lent, or of
-//! the table's own memory. No call panics but where the library would break its contract.
+//! the table's own memory. No call panics unless the library breaks the contract of its header: numbers that it names,
+//! places inside the bytes that they stand in, strings with a closing quote, tables that stay sound.
 
 #![deny(missing_docs, unsafe_code, unsafe_op_in_unsafe_fn)]
 

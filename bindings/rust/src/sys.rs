@@ -2,6 +2,14 @@
 
 #![allow(missing_docs)]
 
+/// The most values that an answer has.
+pub const HOMIE5_VALUES: usize = 9;
+
+/// The bytes of memory that a table of `devices` devices and `depth` steps takes: `HOMIE5_SIZE`, which wraps as C does.
+pub const fn homie5_size(devices: usize, depth: usize) -> usize {
+    8192_usize.wrapping_mul(devices.wrapping_add(depth).wrapping_add(1))
+}
+
 extern "C" {
     pub fn homie5_trace_check(file: *const u8, file_len: usize, out: *mut u64, out_len: usize) -> u8;
     pub fn homie5_trace_read(file: *const u8, file_len: usize, i: usize, out: *mut u64, out_len: usize) -> u8;

@@ -3,12 +3,10 @@
 use crate::call;
 use crate::named::named;
 use crate::payload::Datatype;
+use crate::sys::homie5_size;
 use crate::trace::Event;
 use crate::values::Values;
 use crate::{Property, Refusal};
-
-/// The room of one device, in bytes.
-const ROOM: usize = 8192;
 
 /// The most devices, and the most steps back.
 const MOST: usize = 64;
@@ -135,8 +133,7 @@ impl Table {
     /// with `BadOpening`.
     pub fn open(domain: &[u8], devices: usize, depth: usize) -> Result<Table, Refusal> {
         // a larger number is refused by the library, whatever the memory
-        let rooms = devices.min(MOST) + depth.min(MOST) + 1;
-        let mut memory = vec![0; ROOM * rooms];
+        let mut memory = vec![0; homie5_size(devices.min(MOST), depth.min(MOST))];
         call::open(&mut memory, domain, devices, depth)?;
         Ok(Table { memory })
     }

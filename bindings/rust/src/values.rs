@@ -1,23 +1,21 @@
 //! The values of an answer, read as what they stand for.
 
+use crate::sys::HOMIE5_VALUES;
 use crate::Refusal;
 
-/// The most values that an answer has.
-const VALUES: usize = 9;
-
 /// The values of one answer; those that it does not have are 0.
-pub struct Values([u64; VALUES]);
+pub struct Values([u64; HOMIE5_VALUES]);
 
 /// Makes a call, with room for every value: the values of its answer, or the refusal.
 pub fn ask(call: impl FnOnce(&mut [u64]) -> u8) -> Result<Values, Refusal> {
-    let mut values = [0; VALUES];
+    let mut values = [0; HOMIE5_VALUES];
     taken(call(&mut values))?;
     Ok(Values(values))
 }
 
 /// Makes a judgement, with room for every value: the values of a yes.
 pub fn judge(call: impl FnOnce(&mut [u64]) -> u8) -> Option<Values> {
-    let mut values = [0; VALUES];
+    let mut values = [0; HOMIE5_VALUES];
     yes(call(&mut values)).then_some(Values(values))
 }
 
@@ -76,6 +74,7 @@ impl Values {
     /// The string of a JSON text whose opening quote stands here, up to the next quote.
     pub fn string<'a>(&self, at: usize, text: &'a [u8]) -> &'a [u8] {
         let inside = &text[self.size(at) + 1..];
-        inside.split(|&byte| byte == b'"').next().unwrap_or(inside)
+        let end = inside.iter().position(|&byte| byte == b'"');
+        &inside[..end.expect("the library shows strings that end")]
     }
 }

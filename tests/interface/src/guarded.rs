@@ -86,7 +86,7 @@ pub fn random_bytes(random: &mut Random, len: usize) -> Vec<u8> {
 }
 
 /// The most values that an answer has: HOMIE5_VALUES.
-pub const VALUES: usize = 9;
+pub const VALUES: usize = homie5::sys::HOMIE5_VALUES;
 /// Guard values on each side.
 const MARGIN: usize = 4;
 

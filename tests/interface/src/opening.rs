@@ -6,6 +6,7 @@ use crate::guarded::{random_bytes, Guarded};
 use crate::raw;
 use crate::sound::{is_sound, size};
 use crate::tally::{Outcome, Tally};
+use homie5::sys::homie5_size;
 use reference::lines::hex;
 use reference::random::Random;
 use reference::refusal::NUMBER;
@@ -75,7 +76,7 @@ fn anywhere(random: &mut Random, tally: &mut Tally) -> Result<bool, String> {
         2 => (devices, depth) = (near, 0_usize.wrapping_sub(near).wrapping_sub(random.below(3))),
         _ => {}
     }
-    let need = 8192_usize.wrapping_mul(devices.wrapping_add(depth).wrapping_add(1));
+    let need = homie5_size(devices, depth);
     let len = if need > 2_000_000 { random.below(40_000) } else { (need + random.below(4)).saturating_sub(2) };
     let bytes = random_bytes(random, len);
     let mut memory = Guarded::new(random, &bytes);
