@@ -1,4 +1,5 @@
 /* What the tests over the C interface share. */
+#undef NDEBUG /* the checks are assertions */
 #include <assert.h>
 #include <stdbool.h>
 #include <stdlib.h>
