@@ -167,15 +167,15 @@ fn lane(table: &Table, [id, node, property]: &[Id; 3], kind: u8) -> Result<Vec<V
     Ok(held.map_or(vec![number(0)], |lane| vec![number(1), Value::Number(lane.time), text(&lane.payload)]))
 }
 
-/// A call as a line of the program `calls` (docs/PROGRAMS.md).
+/// A call as a report shows it: its name, then its arguments, byte strings in hex.
 impl fmt::Display for Call {
     fn fmt(&self, f: &mut fmt::Formatter) -> fmt::Result {
         match self {
             Call::Message(message, retained) => {
                 let Message { time, topic, payload, .. } = message;
-                write!(f, "message {time} {} {retained} {}", hex(topic), hex(payload))
+                write!(f, "{} {time} {} {retained} {}", self.name(), hex(topic), hex(payload))
             }
-            Call::Back => write!(f, "back"),
+            Call::Back => write!(f, "{}", self.name()),
             Call::Ask(question) => write!(f, "{question}"),
         }
     }

@@ -16,6 +16,7 @@ extern "C" {
     fn munmap(address: *mut u8, len: usize) -> i32;
 }
 
+// The numbers that Linux gives them.
 const NO_ACCESS: i32 = 0;
 const READ_WRITE: i32 = 3;
 const PRIVATE_ANONYMOUS: i32 = 0x22;

@@ -1,4 +1,5 @@
 //! Traces at 2^32 bytes, where a length no longer fits its field. The memory is never touched but for its first page.
+//! Without address space for them this part fails.
 
 use crate::answer::{Answer, Value};
 use crate::guarded::Out;
@@ -15,10 +16,9 @@ pub fn jobs(_seeds: u64) -> u64 {
 }
 
 pub fn run(_seed: u64, _length: usize, tally: &mut Tally) -> Outcome {
-    let (Some(mut buffer), Some(payload)) = (Zeros::new(LIMIT + 64), Zeros::new(LIMIT + 64)) else {
-        println!("limits: no address space for twice 2^32 bytes, traces at that length are not tried");
-        return Ok(());
-    };
+    let zeros =
+        || Zeros::new(LIMIT + 64).ok_or("no address space for twice 2^32 bytes: traces of that length are not tried");
+    let (mut buffer, payload) = (zeros()?, zeros()?);
     files(buffer.bytes(), tally)?;
     appends(buffer.bytes(), payload, tally)
 }

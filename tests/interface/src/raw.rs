@@ -86,9 +86,7 @@ pub fn topic_flag(domain: &[u8], topic: &[u8], out: &mut [u64]) -> u8 {
 }
 
 pub fn datatype_read(name: &[u8], out: &mut [u64]) -> u8 {
-    fenced([name], |[name]| unsafe {
-        sys::homie5_is_datatype(name.as_ptr(), name.len(), out.as_mut_ptr(), out.len())
-    })
+    fenced([name], |[name]| unsafe { sys::homie5_is_datatype(name.as_ptr(), name.len(), out.as_mut_ptr(), out.len()) })
 }
 
 pub fn format_judge(datatype: u8, given: u8, format: &[u8], out: &mut [u64]) -> u8 {

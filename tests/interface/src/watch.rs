@@ -73,7 +73,7 @@ extern "C" fn stopped(number: i32) {
     unsafe { _exit(128 + number) }
 }
 
-/// Signals of a crash: illegal instruction, abort, bus error, arithmetic, memory.
+/// Signals of a crash, by Linux's numbers: illegal instruction, abort, bus error, arithmetic, memory.
 pub fn catch_crashes() {
     for number in [4, 6, 7, 8, 11] {
         unsafe { signal(number, stopped) };
