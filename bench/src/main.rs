@@ -22,8 +22,23 @@ struct Options {
     list: bool,
     only: Option<String>,
     row: Option<String>,
-    side: Option<String>,
+    side: Side,
     count: u64,
+}
+
+#[derive(Default)]
+enum Side {
+    #[default]
+    Ours,
+    Reference,
+}
+
+fn read_side(word: &str) -> Option<Side> {
+    match word {
+        "ours" => Some(Side::Ours),
+        "reference" => Some(Side::Reference),
+        _ => None,
+    }
 }
 
 fn options() -> Option<Options> {
@@ -35,7 +50,7 @@ fn options() -> Option<Options> {
             "--list" => options.list = true,
             "--only" => options.only = Some(words.next()?),
             "--row" => options.row = Some(words.next()?),
-            "--side" => options.side = Some(words.next()?),
+            "--side" => options.side = read_side(&words.next()?)?,
             "--count" => options.count = words.next()?.parse().ok()?,
             runs => options.runs = Some(runs.parse().ok().filter(|&runs| runs > 0)?),
         }
@@ -44,9 +59,12 @@ fn options() -> Option<Options> {
 }
 
 /// Makes calls of one side of a row.
-fn make_calls(row: &Row, side: &str, count: u64) {
+fn make_calls(row: &Row, side: Side, count: u64) {
     let mut sides = (row.make)();
-    let made = if side == "reference" { (sides.reference)(count) } else { (sides.ours)(count) };
+    let made = match side {
+        Side::Ours => (sides.ours)(count),
+        Side::Reference => (sides.reference)(count),
+    };
     println!("calls {}", made.calls);
 }
 
@@ -61,7 +79,7 @@ fn main() -> ExitCode {
             eprintln!("no row {name}");
             return ExitCode::FAILURE;
         };
-        make_calls(row, options.side.as_deref().unwrap_or("ours"), options.count);
+        make_calls(row, options.side, options.count);
         return ExitCode::SUCCESS;
     }
     if let Some(text) = options.only {

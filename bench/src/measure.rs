@@ -124,7 +124,7 @@ pub fn batches_after<S: 'static>(
     })
 }
 
-/// Copies a part of some bytes, once for each batch of calls.
+/// Copies the bytes, once for each batch of calls.
 pub fn copying(bytes: Vec<u8>, batch: usize) -> Calls {
     let to = vec![1; bytes.len()];
     let copy = |(from, to): &mut (Vec<u8>, Vec<u8>)| {
@@ -152,6 +152,8 @@ pub struct Figures {
     pub ours: Spread,
     pub reference: Spread,
     pub limit: Option<Spread>,
+    /// Ours by the reference's of the same run.
+    pub ratio: Spread,
 }
 
 /// The time of one side in one run, with what goes before its batches.
@@ -184,8 +186,9 @@ pub fn measure(row: &Row, runs: usize) -> Figures {
             samples[side].push(row.unit.of(&sides[side](counts[side])));
         }
     }
+    let ratio = Spread::of(samples[0].iter().zip(&samples[1]).map(|(ours, reference)| ours / reference).collect());
     let mut spreads = samples.into_iter().map(Spread::of);
     let mut spread = || spreads.next();
     let (ours, reference) = (spread(), spread());
-    Figures { ours: ours.expect("ours"), reference: reference.expect("the reference"), limit: spread() }
+    Figures { ours: ours.expect("ours"), reference: reference.expect("the reference"), limit: spread(), ratio }
 }

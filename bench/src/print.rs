@@ -31,8 +31,8 @@ fn range(spread: &Spread, dash: &str) -> String {
 }
 
 pub fn row(row: &Row, figures: &Figures, markdown: bool) {
-    let Figures { ours, reference, limit } = figures;
-    let ratio = format!("{:.2}", ours.median / reference.median);
+    let Figures { ours, reference, limit, ratio } = figures;
+    let ratio = format!("{:.2}", ratio.median);
     let limit = limit.as_ref().map_or(String::new(), |limit| number(limit.median));
     let (own, other) = (number(ours.median), number(reference.median));
     let (name, unit) = (&row.name, row.unit.word());

@@ -1,9 +1,9 @@
-//! Topics, payloads and descriptions by themselves.
+//! Topics, datatypes, formats, payloads and descriptions by themselves.
 
 use crate::data::*;
-use crate::measure::{batches, copying, Row, Sides, Unit};
-use crate::ours::{self, Values};
-use reference::payload::{is_payload, Datatype};
+use crate::measure::{batches, copying, Calls, Row, Sides, Unit};
+use crate::ours;
+use reference::payload::{is_format, is_payload, Datatype};
 use reference::{description, topic};
 use std::hint::black_box;
 
@@ -11,30 +11,68 @@ pub fn rows() -> Vec<Row> {
     let mut rows = vec![
         Row::new("topic of a value", Unit::Call, || topics(|id| format!("homie/5/{id}/light/on"))),
         Row::new("topic of a state", Unit::Call, || topics(|id| format!("homie/5/{id}/$state"))),
+        Row::new("flag of a set's topic", Unit::Call, || flags(|id| format!("homie/5/{id}/light/on/set"))),
+        Row::new("datatype by its name", Unit::Call, names),
     ];
+    rows.extend(FORMATS.map(|(name, datatype, format)| format_row(name, datatype, format)));
     rows.extend(PAYLOADS.map(|(name, datatype, format, payload)| payload_row(name, datatype, format, payload)));
-    rows.push(text_row("description, 12 properties", description));
-    rows.push(text_row("description, 24 properties in 8 KB", long_description));
-    rows.extend(ITEMS.map(|(name, item)| text_row_of(name, item)));
+    rows.extend(description_rows());
+    rows.extend(ITEMS.map(|(name, item)| judging_row(name, move || description_with(OWN, item))));
     rows
 }
 
+/// A call for each item.
+fn each<T: Clone + 'static>(items: &[T], call: impl Fn(&T) + 'static) -> Calls {
+    batches(items.to_vec(), items.len(), move |items: &mut Vec<T>| items.iter().for_each(&call))
+}
+
+fn all_topics(make: fn(&str) -> String) -> Vec<Vec<u8>> {
+    ids().iter().map(|id| make(id).into_bytes()).collect()
+}
+
 fn topics(make: fn(&str) -> String) -> Sides {
-    let topics: Vec<Vec<u8>> = ids().iter().map(|id| make(id).into_bytes()).collect();
-    let ours = |topics: &mut Vec<Vec<u8>>| {
-        for topic in topics.iter() {
-            let mut out = Values::default();
-            assert_eq!(ours::topic(DOMAIN, topic, &mut out), 0);
-            black_box(out);
-        }
+    let topics = all_topics(make);
+    let ours = |topic: &Vec<u8>| ours::answers(0, |out| ours::topic_read(DOMAIN, topic, out));
+    let reference = |topic: &Vec<u8>| drop(black_box(topic::read(DOMAIN, topic).expect("a form")));
+    Sides { ours: each(&topics, ours), reference: each(&topics, reference), limit: None }
+}
+
+fn flags(make: fn(&str) -> String) -> Sides {
+    let topics = all_topics(make);
+    let ours = |topic: &Vec<u8>| ours::answers(0, |out| ours::topic_flag(DOMAIN, topic, out));
+    let reference = |topic: &Vec<u8>| {
+        black_box(topic::read(DOMAIN, topic).expect("a form").form.fixed_flag());
     };
-    let reference = |topics: &mut Vec<Vec<u8>>| {
-        for topic in topics.iter() {
-            black_box(topic::read(DOMAIN, topic).expect("a form"));
-        }
+    Sides { ours: each(&topics, ours), reference: each(&topics, reference), limit: None }
+}
+
+fn names() -> Sides {
+    let names = Datatype::ALL.map(|datatype| datatype.word().as_bytes());
+    let ours = |name: &&[u8]| ours::answers(1, |out| ours::is_datatype(black_box(name), out));
+    let reference = |name: &&[u8]| {
+        black_box(Datatype::from_word(black_box(name)).expect("a datatype"));
     };
-    let batch = topics.len();
-    Sides { ours: batches(topics.clone(), batch, ours), reference: batches(topics, batch, reference), limit: None }
+    Sides { ours: each(&names, ours), reference: each(&names, reference), limit: None }
+}
+
+/// The same call over and over.
+fn same(ours: impl Fn() + 'static, reference: impl Fn() + 'static) -> Sides {
+    Sides { ours: batches((), 1, move |()| ours()), reference: batches((), 1, move |()| reference()), limit: None }
+}
+
+/// Valid formats.
+const FORMATS: [(&str, Datatype, &str); 4] = [
+    ("integer with a step", Datatype::Integer, "0:100:5"),
+    ("float with a step", Datatype::Float, "5:30:0.5"),
+    ("enum", Datatype::Enum, "off,heat,cool,auto"),
+    ("color", Datatype::Color, "rgb,hsv"),
+];
+
+fn format_row(name: &str, datatype: Datatype, format: &'static str) -> Row {
+    let format = format.as_bytes();
+    let ours = move || ours::answers(1, |out| ours::is_format(datatype as u8, black_box(format), out));
+    let reference = move || assert!(is_format(datatype, black_box(format)));
+    Row::new(format!("format, {name}"), Unit::Call, move || same(ours, reference))
 }
 
 /// Valid payloads of each datatype, with a format.
@@ -53,28 +91,15 @@ const PAYLOADS: [(&str, Datatype, &str, &str); 11] = [
 ];
 
 fn payload_row(name: &str, datatype: Datatype, format: &'static str, payload: &'static str) -> Row {
-    Row::new(format!("payload, {name}"), Unit::Call, move || {
-        let (format, payload) = (format.as_bytes(), payload.as_bytes());
-        let batch = 64;
-        let ours = move |_: &mut ()| {
-            for _ in 0..batch {
-                assert_eq!(ours::payload(datatype as u8, black_box(format), black_box(payload)), 1);
-            }
-        };
-        let reference = move |_: &mut ()| {
-            for _ in 0..batch {
-                assert!(is_payload(datatype, black_box(format), black_box(payload)));
-            }
-        };
-        Sides { ours: batches((), batch, ours), reference: batches((), batch, reference), limit: None }
-    })
+    let (format, payload) = (format.as_bytes(), payload.as_bytes());
+    let ours = move || assert_eq!(ours::is_payload(datatype as u8, black_box(format), black_box(payload)), 1);
+    let reference = move || assert!(is_payload(datatype, black_box(format), black_box(payload)));
+    Row::new(format!("payload, {name}"), Unit::Call, move || same(ours, reference))
 }
+
+// Descriptions
 
 const OWN: &str = "lamp-attic";
-
-fn text_row(name: &str, make: fn(&str) -> String) -> Row {
-    judging_row(name, move || make(OWN))
-}
 
 /// Items of JSON that fill a description of 8 KB.
 const ITEMS: [(&str, &str); 4] = [
@@ -84,20 +109,32 @@ const ITEMS: [(&str, &str); 4] = [
     ("JSON, nested", "[[[[[[[[[[[[[[1]]]]]]]]]]]]]]"),
 ];
 
-fn text_row_of(name: &'static str, item: &'static str) -> Row {
-    judging_row(name, move || description_with(OWN, item))
+fn description_rows() -> [Row; 4] {
+    let twelve = || description(OWN);
+    let read = |text: &[u8]| ours::answers(0, |out| ours::description_read(OWN.as_bytes(), text, out));
+    let last = |text: &[u8]| ours::answers(0, |out| ours::description_property(OWN.as_bytes(), text, 11, out));
+    [
+        judging_row("description, 12 properties", twelve),
+        judging_row("description, 24 properties in 8 KB", || long_description(OWN)),
+        text_row("reading description, 12 properties", twelve, read),
+        text_row("last of a description's 12 properties", twelve, last),
+    ]
 }
 
 fn judging_row(name: &str, make: impl Fn() -> String + 'static) -> Row {
+    text_row(&format!("judging {name}"), make, |text| assert_eq!(ours::description_judge(OWN.as_bytes(), text), 0))
+}
+
+/// A call on the text of a description, which the second program reads whole.
+fn text_row(name: &str, make: impl Fn() -> String + 'static, ours: fn(&[u8])) -> Row {
     let bytes = make().len();
-    Row::new(format!("judging {name}"), Unit::Megabyte(bytes), move || {
+    Row::new(name, Unit::Megabyte(bytes), move || {
         let text = make().into_bytes();
-        let ours = |text: &mut Vec<u8>| assert_eq!(ours::description(OWN.as_bytes(), black_box(text)), 0);
         let reference = |text: &mut Vec<u8>| {
             black_box(description::read(OWN.as_bytes(), black_box(text)).expect("a description"));
         };
         Sides {
-            ours: batches(text.clone(), 1, ours),
+            ours: batches(text.clone(), 1, move |text| ours(black_box(text))),
             reference: batches(text.clone(), 1, reference),
             limit: Some(copying(text, 1)),
         }

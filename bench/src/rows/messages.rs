@@ -1,11 +1,14 @@
-//! Messages of each kind, and steps back.
+//! Openings, messages of each kind, and steps back.
 
 use crate::data::*;
 use crate::house::{ours_of, reference_of};
 use crate::measure::{batches, batches_after, Calls, Row, Sides, Unit};
 use crate::ours;
+use crate::undo::Table;
+use homie5::sys::homie5_size;
 use reference::refusal::*;
 use reference::trace::Event;
+use std::hint::black_box;
 
 #[derive(Clone)]
 enum Action {
@@ -23,8 +26,20 @@ struct Feed {
 }
 
 pub fn rows() -> Vec<Row> {
-    let depths = [0, 64].into_iter().flat_map(|depth| kinds().map(move |(name, feed)| message_row(name, depth, feed)));
-    depths.chain(back_rows()).collect()
+    let of = |depth: usize| {
+        let messages = kinds().into_iter().map(move |(name, feed)| message_row(name, depth, feed));
+        [open_row(depth)].into_iter().chain(messages)
+    };
+    [0, 64].into_iter().flat_map(of).chain(back_rows()).collect()
+}
+
+fn open_row(depth: usize) -> Row {
+    Row::new(format!("opening, J {depth}"), Unit::Call, move || {
+        let mem = vec![0; homie5_size(DEVICES, depth)];
+        let ours = move |mem: &mut Vec<u8>| assert_eq!(ours::open(mem, DOMAIN, DEVICES, depth), 0);
+        let reference = move |_: &mut ()| drop(black_box(Table::new(DOMAIN, DEVICES, depth)));
+        Sides { ours: batches(mem, 1, ours), reference: batches((), 1, reference), limit: None }
+    })
 }
 
 fn message_row(name: &str, depth: usize, feed: fn() -> Feed) -> Row {
@@ -125,48 +140,62 @@ fn restored(id: &str) -> Vec<Action> {
 
 type Kind = (&'static str, fn() -> Feed);
 
-fn kinds() -> [Kind; 27] {
-    [
-        ("state, new device", || after(some(|id| state(id, "")), some(|id| state(id, "init")))),
-        ("state, device removed", || {
-            after(ids().iter().step_by(4).flat_map(|id| restored(id)).collect(), some(|id| state(id, "")))
-        }),
-        ("state, updated", || taken([each(|id| state(id, "sleeping")), each(|id| state(id, "ready"))].concat())),
-        ("description, 12 properties", || taken(each(|id| describe(id, &description(id))))),
-        ("description, 24 properties in 8 KB", || taken(each(|id| describe(id, &long_description(id))))),
-        ("description, emptied", || after(each(|id| describe(id, &description(id))), each(|id| describe(id, "")))),
-        ("value, boolean", || taken(values("on", ""))),
-        ("value, integer in a range", || taken(values("humidity", ""))),
-        ("value, integer in a range with a step", || taken(values("level", ""))),
-        ("value, float in a range", || taken(values("temperature", ""))),
-        ("value, enum", || taken(values("mode", ""))),
-        ("value, color", || taken(values("color", ""))),
-        ("value, string", || taken(values("label", ""))),
-        ("value, json", || taken(values("status", ""))),
-        ("value, emptied", || after(values("on", ""), each(|id| to_property(id, property("on"), "", "")))),
-        ("target", || taken(values("level", "/$target"))),
-        ("set", || taken(values("level", "/set"))),
-        ("alert", || taken(each(|id| event(&format!("{id}/$alert/battery"), true, "Battery is low")))),
-        ("log", || taken(each(|id| event(&format!("{id}/$log/info"), false, "connected to the broker again")))),
-        ("broadcast", || taken(each(|_| event("$broadcast/security/alarm", false, "Intruder detected")))),
-        ("other", || taken(each(|id| event(&format!("{id}/$fw/version"), true, "2.1.0")))),
-        ("refused 7: earlier", || {
-            let early = |id: &str| Event { time: NOW - 1, ..to_property(id, property("on"), "", "true") };
-            refused(TIME, each(early))
-        }),
-        ("refused 11: wrong flag", || {
-            let wrong = |id: &str| Event { retained: false, ..to_property(id, property("on"), "", "true") };
-            refused(FLAG, each(wrong))
-        }),
-        ("refused 12: no such device", || {
-            refused(NO_DEVICE, each(|id| to_property(&format!("{id}-x"), property("on"), "", "true")))
-        }),
-        ("refused 14: payload", || refused(PAYLOAD, each(|id| to_property(id, property("level"), "", "1000")))),
-        ("refused 16: no such property", || {
-            refused(NO_PROPERTY, each(|id| event(&format!("{id}/system/on"), true, "true")))
-        }),
-        ("refused 17: not settable", || {
-            refused(NOT_SETTABLE, each(|id| to_property(id, property("humidity"), "/set", "41")))
-        }),
-    ]
+fn kinds() -> Vec<Kind> {
+    [&STATES[..], &DESCRIPTIONS, &VALUES, &REPORTS, &REFUSALS].concat()
 }
+
+const STATES: [Kind; 3] = [
+    ("state, new device", || after(some(|id| state(id, "")), some(|id| state(id, "init")))),
+    ("state, device removed", || {
+        after(ids().iter().step_by(4).flat_map(|id| restored(id)).collect(), some(|id| state(id, "")))
+    }),
+    ("state, updated", || taken([each(|id| state(id, "sleeping")), each(|id| state(id, "ready"))].concat())),
+];
+
+const DESCRIPTIONS: [Kind; 3] = [
+    ("description, 12 properties", || taken(each(|id| describe(id, &description(id))))),
+    ("description, 24 properties in 8 KB", || taken(each(|id| describe(id, &long_description(id))))),
+    ("description, emptied", || after(each(|id| describe(id, &description(id))), each(|id| describe(id, "")))),
+];
+
+const VALUES: [Kind; 13] = [
+    ("value, boolean", || taken(values("on", ""))),
+    ("value, integer in a range", || taken(values("humidity", ""))),
+    ("value, integer in a range with a step", || taken(values("level", ""))),
+    ("value, float in a range", || taken(values("temperature", ""))),
+    ("value, enum", || taken(values("mode", ""))),
+    ("value, color", || taken(values("color", ""))),
+    ("value, string", || taken(values("label", ""))),
+    ("value, datetime", || taken(values("updated", ""))),
+    ("value, duration", || taken(values("uptime", ""))),
+    ("value, json", || taken(values("status", ""))),
+    ("value, emptied", || after(values("on", ""), each(|id| to_property(id, property("on"), "", "")))),
+    ("target", || taken(values("level", "/$target"))),
+    ("set", || taken(values("level", "/set"))),
+];
+
+const REPORTS: [Kind; 4] = [
+    ("alert", || taken(each(|id| event(&format!("{id}/$alert/battery"), true, "Battery is low")))),
+    ("log", || taken(each(|id| event(&format!("{id}/$log/info"), false, "connected to the broker again")))),
+    ("broadcast", || taken(each(|_| event("$broadcast/security/alarm", false, "Intruder detected")))),
+    ("other", || taken(each(|id| event(&format!("{id}/$fw/version"), true, "2.1.0")))),
+];
+
+const REFUSALS: [Kind; 6] = [
+    ("refused 7: earlier", || {
+        refused(TIME, each(|id| Event { time: NOW - 1, ..to_property(id, property("on"), "", "true") }))
+    }),
+    ("refused 11: wrong flag", || {
+        refused(FLAG, each(|id| Event { retained: false, ..to_property(id, property("on"), "", "true") }))
+    }),
+    ("refused 12: no such device", || {
+        refused(NO_DEVICE, each(|id| to_property(&format!("{id}-x"), property("on"), "", "true")))
+    }),
+    ("refused 14: payload", || refused(PAYLOAD, each(|id| to_property(id, property("level"), "", "1000")))),
+    ("refused 16: no such property", || {
+        refused(NO_PROPERTY, each(|id| event(&format!("{id}/system/on"), true, "true")))
+    }),
+    ("refused 17: not settable", || {
+        refused(NOT_SETTABLE, each(|id| to_property(id, property("humidity"), "/set", "41")))
+    }),
+];

@@ -5,6 +5,7 @@ use crate::house::{ours_of, reference_of};
 use crate::measure::{batches, Row, Sides, Unit};
 use crate::ours::{self, Values};
 use crate::undo::Table;
+use reference::description::Description;
 use reference::refusal::Refusal;
 use reference::table::LaneKind;
 use std::hint::black_box;
@@ -36,7 +37,7 @@ type Reference = fn(&Table, &Ask) -> Result<(), Refusal>;
 
 pub fn rows() -> Vec<Row> {
     let of = |depth: usize| {
-        questions().map(move |(name, ours, reference)| {
+        questions().into_iter().map(move |(name, ours, reference)| {
             Row::new(format!("{name}, J {depth}"), Unit::Call, move || sides(depth, ours, reference))
         })
     };
@@ -47,9 +48,7 @@ fn sides(depth: usize, ours: Ours, reference: Reference) -> Sides {
     let batch = asks().len();
     let ask_ours = move |(mem, asks): &mut (Vec<u8>, Vec<Ask>)| {
         for ask in asks.iter() {
-            let mut out = Values::default();
-            assert_eq!(ours(mem, ask, &mut out), 0);
-            black_box(out);
+            ours::answers(0, |out| ours(mem, ask, out));
         }
     };
     let ask_reference = move |(table, asks): &mut (Table, Vec<Ask>)| {
@@ -73,68 +72,83 @@ fn told<T>(answer: T) -> Result<(), Refusal> {
     Ok(())
 }
 
-fn description_of<'a>(table: &'a Table, ask: &Ask) -> Result<&'a reference::description::Description, Refusal> {
+fn description_of<'a>(table: &'a Table, ask: &Ask) -> Result<&'a Description, Refusal> {
     Ok(table.device(&ask.id)?.description.as_ref().expect("a description"))
+}
+
+fn states(table: &Table, ask: &Ask) -> Result<(), Refusal> {
+    let device = table.device(&ask.id)?;
+    told((device.state, table.effective_state(device), device.time))
 }
 
 fn lane(table: &Table, ask: &Ask, kind: LaneKind) -> Result<(), Refusal> {
     table.lane(&ask.id, &ask.node, &ask.property, kind).map(seen)
 }
 
-fn questions() -> [(&'static str, Ours, Reference); 13] {
-    [
-        ("count", |mem, _, out| ours::count(mem, out), |table, _| told(table.count())),
-        ("nth device", |mem, ask, out| ours::nth(mem, ask.number, out), |table, ask| table.nth(ask.number).map(seen)),
-        (
-            "states",
-            |mem, ask, out| ours::states(mem, &ask.id, out),
-            |table, ask| {
-                let device = table.device(&ask.id)?;
-                seen((device.state, table.effective_state(device), device.time));
-                Ok(())
-            },
-        ),
-        (
-            "root",
-            |mem, ask, out| ours::root(mem, &ask.id, out),
-            |table, ask| description_of(table, ask).map(|description| seen(&description.root)),
-        ),
-        (
-            "parent",
-            |mem, ask, out| ours::parent(mem, &ask.id, out),
-            |table, ask| description_of(table, ask).map(|description| seen(&description.parent)),
-        ),
-        (
-            "version",
-            |mem, ask, out| ours::version(mem, &ask.id, out),
-            |table, ask| description_of(table, ask).map(|description| seen(description.version)),
-        ),
-        (
-            "filled",
-            |mem, ask, out| ours::filled(mem, &ask.id, out),
-            |table, ask| table.device(&ask.id).map(|device| seen(device.filled())),
-        ),
-        (
-            "property",
-            |mem, ask, out| ours::property(mem, &ask.id, ask.number, out),
-            |table, ask| table.property(&ask.id, ask.number).map(seen),
-        ),
-        (
-            "lane, value",
-            |mem, ask, out| ours::lane(mem, &ask.id, &ask.node, &ask.property, 0, out),
-            |table, ask| lane(table, ask, LaneKind::Value),
-        ),
-        (
-            "lane, target",
-            |mem, ask, out| ours::lane(mem, &ask.id, &ask.node, &ask.property, 1, out),
-            |table, ask| lane(table, ask, LaneKind::Target),
-        ),
-        (
-            "lane, asked",
-            |mem, ask, out| ours::lane(mem, &ask.id, &ask.node, &ask.property, 2, out),
-            |table, ask| lane(table, ask, LaneKind::Asked),
-        ),
-        ("last time", |mem, _, out| ours::last(mem, out), |table, _| told(table.last_time())),
-        ("steps", |mem, _, out| ours::steps(mem, out), |table, _| told(table.steps())),
-    ]
+fn our_lane(mem: &[u8], ask: &Ask, kind: LaneKind, out: &mut Values) -> u8 {
+    ours::lane(mem, &ask.id, &ask.node, &ask.property, kind as u8, out)
 }
+
+type Question = (&'static str, Ours, Reference);
+
+fn questions() -> Vec<Question> {
+    [&OF_TABLE[..], &OF_DEVICE, &OF_PROPERTY].concat()
+}
+
+const OF_TABLE: [Question; 4] = [
+    ("device count", |mem, _, out| ours::device_count(mem, out), |table, _| told(table.count())),
+    (
+        "device by number",
+        |mem, ask, out| ours::device_at(mem, ask.number, out),
+        |table, ask| table.nth(ask.number).map(seen),
+    ),
+    ("last time", |mem, _, out| ours::last_time(mem, out), |table, _| told(table.last_time())),
+    ("steps", |mem, _, out| ours::steps(mem, out), |table, _| told(table.steps())),
+];
+
+const OF_DEVICE: [Question; 5] = [
+    ("states", |mem, ask, out| ours::states(mem, &ask.id, out), states),
+    (
+        "root",
+        |mem, ask, out| ours::root(mem, &ask.id, out),
+        |table, ask| description_of(table, ask).map(|description| seen(&description.root)),
+    ),
+    (
+        "parent",
+        |mem, ask, out| ours::parent(mem, &ask.id, out),
+        |table, ask| description_of(table, ask).map(|description| seen(&description.parent)),
+    ),
+    (
+        "version",
+        |mem, ask, out| ours::version(mem, &ask.id, out),
+        |table, ask| description_of(table, ask).map(|description| seen(description.version)),
+    ),
+    (
+        "values held",
+        |mem, ask, out| ours::values_held(mem, &ask.id, out),
+        |table, ask| table.device(&ask.id).map(|device| seen(device.filled())),
+    ),
+];
+
+const OF_PROPERTY: [Question; 4] = [
+    (
+        "property",
+        |mem, ask, out| ours::property(mem, &ask.id, ask.number, out),
+        |table, ask| table.property(&ask.id, ask.number).map(seen),
+    ),
+    (
+        "lane, value",
+        |mem, ask, out| our_lane(mem, ask, LaneKind::Value, out),
+        |table, ask| lane(table, ask, LaneKind::Value),
+    ),
+    (
+        "lane, target",
+        |mem, ask, out| our_lane(mem, ask, LaneKind::Target, out),
+        |table, ask| lane(table, ask, LaneKind::Target),
+    ),
+    (
+        "lane, asked",
+        |mem, ask, out| our_lane(mem, ask, LaneKind::Asked, out),
+        |table, ask| lane(table, ask, LaneKind::Asked),
+    ),
+];

@@ -18,6 +18,7 @@ pub fn rows() -> Vec<Row> {
         Row::new("read by number, in order", Unit::Call, || reading((0..EVENTS).collect())),
         Row::new("read by number, in any order", Unit::Call, || reading(shuffled())),
         Row::new("next event", Unit::Call, next),
+        Row::new("empty trace written", Unit::Call, empty),
         Row::new(format!("append to {BEFORE} events"), Unit::Call, append),
     ]
 }
@@ -68,11 +69,7 @@ fn read_reference(file: &[u8], number: usize) {
 
 fn reading(numbers: Vec<usize>) -> Sides {
     let file = file();
-    let ours = |file: &[u8], number| {
-        let mut out = Values::default();
-        assert_eq!(ours::read(file, number, &mut out), 0);
-        black_box(out);
-    };
+    let ours = |file: &[u8], number| ours::answers(0, |out| ours::read(file, number, out));
     Sides {
         limit: None,
         ours: walking(file.clone(), numbers.clone(), ours),
@@ -83,17 +80,20 @@ fn reading(numbers: Vec<usize>) -> Sides {
 /// The second program has no reading place: it reads by number.
 fn next() -> Sides {
     let file = file();
-    let ours = |file: &[u8], number| {
-        let mut out = Values::default();
-        assert_eq!(ours::next(file, number, &mut out), 0);
-        black_box(out);
-    };
+    let ours = |file: &[u8], number| ours::answers(0, |out| ours::next(file, number, out));
     let numbers: Vec<usize> = (0..EVENTS).collect();
     Sides {
         limit: None,
         ours: walking(file.clone(), numbers.clone(), ours),
         reference: walking(file, numbers, read_reference),
     }
+}
+
+fn empty() -> Sides {
+    let buffer = vec![1; trace::HEADER_SIZE];
+    let ours = |buffer: &mut Vec<u8>| ours::answers(0, |out| ours::empty(black_box(buffer), out));
+    let reference = |buffer: &mut Vec<u8>| assert_eq!(trace::write_empty(black_box(buffer)), Ok(trace::HEADER_SIZE));
+    Sides { ours: batches(buffer.clone(), 1, ours), reference: batches(buffer, 1, reference), limit: None }
 }
 
 struct Appending {
