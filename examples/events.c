@@ -1,6 +1,6 @@
 /*
- * Lists the events of a trace file: number, time, topic, flag, and the form that the topic has in a table of the
- * domain `homie`. A bad file prints only `refused` and the number.
+ * Lists the events of a trace file of at most 65,536 bytes from standard input: number, time, topic, flag, and the form
+ * that the topic has in a table of the domain `homie`. A bad file prints only `refused` and the number.
  */
 #include <inttypes.h>
 #include <stdio.h>
