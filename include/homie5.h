@@ -158,11 +158,11 @@ uint8_t homie5_is_datatype(const uint8_t *name, size_t name_len, uint64_t *out, 
  * Values of a yes: what is kept of it, HOMIE5_KEPT_..
  */
 uint8_t homie5_is_format(uint8_t datatype, uint8_t given, const uint8_t *format, size_t format_len, uint64_t *out,
-                            size_t out_len);
+                         size_t out_len);
 
 /* Whether a payload is valid for a datatype and a format. 1 yes, 0 no; 0 too where the format is not valid. */
 uint8_t homie5_is_payload(uint8_t datatype, const uint8_t *format, size_t format_len, const uint8_t *payload,
-                             size_t payload_len);
+                          size_t payload_len);
 
 /* Whether a text is a valid description of the device of the ID `own`. Refusals: 15. */
 uint8_t homie5_description_judge(const uint8_t *own, size_t own_len, const uint8_t *text, size_t text_len);
@@ -172,8 +172,8 @@ uint8_t homie5_description_judge(const uint8_t *own, size_t own_len, const uint8
  * in the text, else 0 and 0; the same of its parent; how many properties it declares (6 numbers). Refusals: 15.
  * A string stands where its opening quote is and ends before the next quote: none of those shown has a backslash.
  */
-uint8_t homie5_description_read(const uint8_t *own, size_t own_len, const uint8_t *text, size_t text_len,
-                                uint64_t *out, size_t out_len);
+uint8_t homie5_description_read(const uint8_t *own, size_t own_len, const uint8_t *text, size_t text_len, uint64_t *out,
+                                size_t out_len);
 
 /*
  * The i-th property that a description declares, from 0, by node ID, then property ID. Values: where its node's ID and
@@ -240,7 +240,7 @@ static inline int64_t homie5_version_number(uint64_t version)
 
 /* How many properties of a device hold a value. Values: that number. */
 uint8_t homie5_values_held(const uint8_t *mem, size_t mem_len, const uint8_t *id, size_t id_len, uint64_t *out,
-                      size_t out_len);
+                           size_t out_len);
 
 /*
  * The i-th property of a device, from 0, by node ID, then property ID. Values: the place of its node's ID, the place

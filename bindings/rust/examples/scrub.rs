@@ -53,7 +53,7 @@ impl<'a> Scrubber<'a> {
     }
 
     fn print(&self, to: &mut impl Write) -> Result<(), Box<dyn Error>> {
-        writeln!(to, "place {} time {:?} steps {}", self.place, self.table.last(), self.table.steps())?;
+        writeln!(to, "place {} time {:?} steps {}", self.place, self.table.last_time(), self.table.steps())?;
         for id in self.table.devices() {
             writeln!(to, "  {} {}", id.escape_ascii(), self.table.states(id)?.effective)?;
             for property in self.table.properties(id) {

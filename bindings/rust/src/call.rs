@@ -29,16 +29,16 @@ questions! {
     topic_flag = homie5_topic_flag(domain, topic;);
     description_read = homie5_description_read(own, text;);
     description_property = homie5_description_property(own, text; i: usize);
-    count = homie5_device_count(mem;);
-    nth = homie5_device_at(mem; i: usize);
+    device_count = homie5_device_count(mem;);
+    device_at = homie5_device_at(mem; i: usize);
     states = homie5_states(mem, id;);
     root = homie5_root(mem, id;);
     parent = homie5_parent(mem, id;);
     version = homie5_version(mem, id;);
-    filled = homie5_values_held(mem, id;);
+    values_held = homie5_values_held(mem, id;);
     property = homie5_property(mem, id; i: usize);
     lane = homie5_lane(mem, id, node, property; kind: u8);
-    last = homie5_last_time(mem;);
+    last_time = homie5_last_time(mem;);
     steps = homie5_steps(mem;);
 }
 
@@ -66,12 +66,12 @@ pub fn trace_append(buf: &mut [u8], used: usize, event: &Event) -> Result<Values
     })
 }
 
-pub fn datatype_read(name: &[u8]) -> Option<Values> {
+pub fn is_datatype(name: &[u8]) -> Option<Values> {
     // SAFETY: see the head of this file.
     judge(|out| unsafe { sys::homie5_is_datatype(name.as_ptr(), name.len(), out.as_mut_ptr(), out.len()) })
 }
 
-pub fn format_judge(datatype: u8, format: Option<&[u8]>) -> Option<Values> {
+pub fn is_format(datatype: u8, format: Option<&[u8]>) -> Option<Values> {
     let given = u8::from(format.is_some());
     let format = format.unwrap_or_default();
     // SAFETY: see the head of this file.
@@ -80,7 +80,7 @@ pub fn format_judge(datatype: u8, format: Option<&[u8]>) -> Option<Values> {
     })
 }
 
-pub fn payload_judge(datatype: u8, format: &[u8], payload: &[u8]) -> bool {
+pub fn is_payload(datatype: u8, format: &[u8], payload: &[u8]) -> bool {
     // SAFETY: see the head of this file.
     yes(unsafe { sys::homie5_is_payload(datatype, format.as_ptr(), format.len(), payload.as_ptr(), payload.len()) })
 }

@@ -13,12 +13,12 @@ named! {
     /// assert_eq!(Datatype::from_name(b"Integer"), None);
     ///
     /// assert_eq!(Datatype::Integer.judge_format(Some(b"2:6:2")), Some(Kept::AsGiven));
-    /// assert!(Datatype::Integer.is_valid(b"2:6:2", b"1"));
-    /// assert!(!Datatype::Integer.is_valid(b"2:6:2", b"0"));
+    /// assert!(Datatype::Integer.is_payload(b"2:6:2", b"1"));
+    /// assert!(!Datatype::Integer.is_payload(b"2:6:2", b"0"));
     ///
-    /// assert!(Datatype::Color.is_valid(b"rgb", b"rgb,0,255,1e2"));
-    /// assert!(!Datatype::Color.is_valid(b"xyz", b"xyz,1.01,0"));
-    /// assert!(!Datatype::Datetime.is_valid(b"", b"2023-02-29T00:00:00Z"));
+    /// assert!(Datatype::Color.is_payload(b"rgb", b"rgb,0,255,1e2"));
+    /// assert!(!Datatype::Color.is_payload(b"xyz", b"xyz,1.01,0"));
+    /// assert!(!Datatype::Datetime.is_payload(b"", b"2023-02-29T00:00:00Z"));
     /// ```
     Datatype {
         String = 0 "string"
@@ -36,17 +36,17 @@ named! {
 impl Datatype {
     /// The datatype of a name, which is its words.
     pub fn from_name(name: &[u8]) -> Option<Datatype> {
-        Some(call::datatype_read(name)?.one_of(0, Datatype::from_number))
+        Some(call::is_datatype(name)?.one_of(0, Datatype::from_number))
     }
 
     /// What is kept of a format, or of a missing one; none where it is not valid, or may not be missing.
     pub fn judge_format(self, format: Option<&[u8]>) -> Option<Kept> {
-        Some(call::format_judge(self.number(), format)?.one_of(0, Kept::from_number))
+        Some(call::is_format(self.number(), format)?.one_of(0, Kept::from_number))
     }
 
     /// Whether a payload is valid under the kept format.
-    pub fn is_valid(self, format: &[u8], payload: &[u8]) -> bool {
-        call::payload_judge(self.number(), format, payload)
+    pub fn is_payload(self, format: &[u8], payload: &[u8]) -> bool {
+        call::is_payload(self.number(), format, payload)
     }
 }
 

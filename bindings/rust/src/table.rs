@@ -116,7 +116,7 @@ pub struct Held<'a> {
 /// let asked = Held { time: 4294967300, payload: b"true" };
 /// assert_eq!(table.lane(b"lamp", b"light", b"on", Lane::Asked), Ok(Some(asked)));
 /// assert_eq!(table.lane(b"lamp", b"light", b"on", Lane::Value), Ok(None));
-/// assert_eq!((table.steps(), table.last()), (3, Some(4294967300)));
+/// assert_eq!((table.steps(), table.last_time()), (3, Some(4294967300)));
 ///
 /// table.step_back()?;
 /// assert_eq!(table.lane(b"lamp", b"light", b"on", Lane::Asked), Ok(None));
@@ -144,12 +144,12 @@ impl Table {
     /// use homie5::{table::Table, Refusal};
     ///
     /// let kept = Table::open(b"homie", 1, 0)?.into_bytes();
-    /// assert_eq!(Table::from_bytes(kept)?.count(), 0);
+    /// assert_eq!(Table::from_bytes(kept)?.device_count(), 0);
     /// assert_eq!(Table::from_bytes(vec![1, 2, 3]).err(), Some(Refusal::NotSound));
     /// # Ok::<(), Refusal>(())
     /// ```
     pub fn from_bytes(memory: Vec<u8>) -> Result<Table, Refusal> {
-        call::count(&memory)?;
+        call::device_count(&memory)?;
         Ok(Table { memory })
     }
 
@@ -179,24 +179,24 @@ impl Table {
     }
 
     /// The time of the last message taken.
-    pub fn last(&self) -> Option<u64> {
-        let values = sound(call::last(&self.memory));
+    pub fn last_time(&self) -> Option<u64> {
+        let values = sound(call::last_time(&self.memory));
         values.flag(0).then(|| values.number(1))
     }
 
     /// How many devices there are.
-    pub fn count(&self) -> usize {
-        sound(call::count(&self.memory)).size(0)
+    pub fn device_count(&self) -> usize {
+        sound(call::device_count(&self.memory)).size(0)
     }
 
     /// The ID of the i-th device, from 0, by ascending ID bytes. Refuses with `NoSuchNumber`.
-    pub fn nth(&self, i: usize) -> Result<&[u8], Refusal> {
-        Ok(call::nth(&self.memory, i)?.part(0, &self.memory))
+    pub fn device_at(&self, i: usize) -> Result<&[u8], Refusal> {
+        Ok(call::device_at(&self.memory, i)?.part(0, &self.memory))
     }
 
     /// The IDs of all devices, ascending.
     pub fn devices(&self) -> impl Iterator<Item = &[u8]> {
-        (0..self.count()).map_while(|i| self.nth(i).ok())
+        (0..self.device_count()).map_while(|i| self.device_at(i).ok())
     }
 
     /// The states of a device. Refuses with `NoDevice`.
@@ -230,8 +230,8 @@ impl Table {
     }
 
     /// How many properties of a device hold a value. Refuses with `NoDevice`.
-    pub fn filled(&self, id: &[u8]) -> Result<usize, Refusal> {
-        Ok(call::filled(&self.memory, id)?.size(0))
+    pub fn values_held(&self, id: &[u8]) -> Result<usize, Refusal> {
+        Ok(call::values_held(&self.memory, id)?.size(0))
     }
 
     /// The i-th property of a device, from 0, by node ID, then property ID. Refuses with `NoDevice`, `NoSuchNumber`.
@@ -269,6 +269,9 @@ fn sound(answer: Result<Values, Refusal>) -> Values {
 
 impl std::fmt::Debug for Table {
     fn fmt(&self, f: &mut std::fmt::Formatter<'_>) -> std::fmt::Result {
-        f.debug_struct("Table").field("devices", &self.count()).field("steps", &self.steps()).finish_non_exhaustive()
+        f.debug_struct("Table")
+            .field("devices", &self.device_count())
+            .field("steps", &self.steps())
+            .finish_non_exhaustive()
     }
 }

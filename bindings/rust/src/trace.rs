@@ -12,7 +12,7 @@ use crate::Refusal;
 /// let event = Event { time: 4294967296, topic: b"homie/5/lamp/$state", retained: true, payload: b"init" };
 /// let mut table = Table::open(b"homie", 1, 0)?;
 /// table.message(&event)?;
-/// assert_eq!(table.last(), Some(4294967296));
+/// assert_eq!(table.last_time(), Some(4294967296));
 /// # Ok::<(), homie5::Refusal>(())
 /// ```
 #[derive(Clone, Copy, Debug, PartialEq, Eq, Hash)]

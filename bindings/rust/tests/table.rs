@@ -38,7 +38,7 @@ fn lanes_hold_64_bits_of_time() {
     assert_eq!(lane(Lane::Value), Some(Held { time: LATE + 1, payload: b"true" }));
     assert_eq!(lane(Lane::Target), Some(Held { time: LATE + 2, payload: b"false" }));
     assert_eq!(lane(Lane::Asked), Some(Held { time: LATEST, payload: b"true" }));
-    assert_eq!((table.filled(b"lamp"), table.last()), (Ok(1), Some(LATEST)));
+    assert_eq!((table.values_held(b"lamp"), table.last_time()), (Ok(1), Some(LATEST)));
     assert_eq!(table.states(b"lamp"), Ok(States { own: State::Ready, effective: State::Ready, time: LATE }));
 }
 
@@ -77,7 +77,7 @@ fn steps_back_to_the_empty_table() {
     assert_eq!(table.lane(b"lamp", b"a", b"on", Lane::Value), Err(Refusal::NoProperty));
     table.step_back().unwrap();
     assert_eq!(table.states(b"lamp"), Err(Refusal::NoDevice));
-    assert_eq!((table.count(), table.devices().count(), table.last(), table.steps()), (0, 0, None, 0));
+    assert_eq!((table.device_count(), table.devices().count(), table.last_time(), table.steps()), (0, 0, None, 0));
     let before = table.as_bytes().to_vec();
     assert_eq!(table.step_back(), Err(Refusal::NoStep));
     assert!(table.as_bytes() == before);
@@ -105,19 +105,19 @@ fn the_largest_table_fills_and_empties() {
         table.message(&event(time, topic, true, "init")).unwrap();
     }
     let new = event(LATEST, "homie/5/d64/$state", true, "init");
-    assert_eq!((table.count(), table.steps(), table.message(&new)), (64, 64, Err(Refusal::Full)));
+    assert_eq!((table.device_count(), table.steps(), table.message(&new)), (64, 64, Err(Refusal::Full)));
     assert!(table.devices().zip(&topics).all(|(id, topic)| id == &topic.as_bytes()[8..11]));
-    assert_eq!(table.nth(64), Err(Refusal::NoSuchNumber));
+    assert_eq!(table.device_at(64), Err(Refusal::NoSuchNumber));
     for left in (0..64).rev() {
         table.step_back().unwrap();
-        assert_eq!((table.count(), table.steps()), (left, left));
+        assert_eq!((table.device_count(), table.steps()), (left, left));
     }
 }
 
 #[test]
 fn tables_kept_as_bytes() {
     let mut table = Table::from_bytes(lamp(2).into_bytes()).unwrap();
-    assert_eq!((table.count(), table.steps(), table.version(b"lamp")), (1, 2, Ok(Some(i64::MIN))));
+    assert_eq!((table.device_count(), table.steps(), table.version(b"lamp")), (1, 2, Ok(Some(i64::MIN))));
     assert_eq!(format!("{table:?}"), "Table { devices: 1, steps: 2, .. }");
     let copy = table.clone();
     table.step_back().unwrap();
@@ -157,12 +157,12 @@ fn use_up(mut table: Table) {
 /// Asks everything; what is answered is not looked at.
 fn questions(table: &Table) {
     for id in table.devices() {
-        let _ = (table.states(id), table.root(id), table.parent(id), table.version(id), table.filled(id));
+        let _ = (table.states(id), table.root(id), table.parent(id), table.version(id), table.values_held(id));
         for property in table.properties(id) {
             for lane in Lane::ALL {
                 let _ = table.lane(id, property.node, property.id, *lane);
             }
         }
     }
-    let _ = (table.last(), table.steps());
+    let _ = (table.last_time(), table.steps());
 }

@@ -54,8 +54,8 @@ fn kept_formats() {
     for (datatype, format, expected) in kept {
         assert_eq!(datatype.judge_format(format), expected, "{datatype} {format:?}");
     }
-    assert!(!Datatype::String.is_valid(b"", b""));
-    assert!(Datatype::String.is_valid(b"", b"\0"));
+    assert!(!Datatype::String.is_payload(b"", b""));
+    assert!(Datatype::String.is_payload(b"", b"\0"));
 }
 
 #[test]

@@ -22,15 +22,15 @@ pub enum Call {
 
 #[derive(Clone)]
 pub enum Question {
-    Count,
-    Last,
+    DeviceCount,
+    LastTime,
     Steps,
-    Nth(usize),
+    DeviceAt(usize),
     States(Id),
     Root(Id),
     Parent(Id),
     Version(Id),
-    Filled(Id),
+    ValuesHeld(Id),
     Property(Id, usize),
     Lane([Id; 3], u8),
 }
@@ -65,15 +65,15 @@ pub fn send(memory: &mut [u8], message: &Message, retained: u8) -> u8 {
 impl Question {
     pub fn name(&self) -> &'static str {
         match self {
-            Question::Count => "count",
-            Question::Last => "last",
+            Question::DeviceCount => "device_count",
+            Question::LastTime => "last_time",
             Question::Steps => "steps",
-            Question::Nth(_) => "nth",
+            Question::DeviceAt(_) => "device_at",
             Question::States(_) => "states",
             Question::Root(_) => "root",
             Question::Parent(_) => "parent",
             Question::Version(_) => "version",
-            Question::Filled(_) => "filled",
+            Question::ValuesHeld(_) => "values_held",
             Question::Property(..) => "property",
             Question::Lane(..) => "lane",
         }
@@ -82,15 +82,15 @@ impl Question {
     /// Asks the library.
     pub fn ask(&self, memory: &[u8], out: &mut [u64]) -> u8 {
         match self {
-            Question::Count => raw::count(memory, out),
-            Question::Last => raw::last(memory, out),
+            Question::DeviceCount => raw::device_count(memory, out),
+            Question::LastTime => raw::last_time(memory, out),
             Question::Steps => raw::steps(memory, out),
-            Question::Nth(i) => raw::nth(memory, *i, out),
+            Question::DeviceAt(i) => raw::device_at(memory, *i, out),
             Question::States(id) => raw::states(memory, id, out),
             Question::Root(id) => raw::root(memory, id, out),
             Question::Parent(id) => raw::parent(memory, id, out),
             Question::Version(id) => raw::version(memory, id, out),
-            Question::Filled(id) => raw::filled(memory, id, out),
+            Question::ValuesHeld(id) => raw::values_held(memory, id, out),
             Question::Property(id, i) => raw::property(memory, id, *i, out),
             Question::Lane([id, node, property], kind) => raw::lane(memory, [id, node, property], *kind, out),
         }
@@ -99,14 +99,14 @@ impl Question {
     /// The answer of the book's table, but for the steps on offer, which are the book's.
     fn expected(&self, table: &Table) -> Result<Vec<Value>, Refusal> {
         match self {
-            Question::Count | Question::Steps => Ok(vec![number(table.count())]),
-            Question::Last => Ok(optional(table.last_time().map(Value::Number))),
-            Question::Nth(i) => table.nth(*i as u64).map(|id| vec![text(id)]),
+            Question::DeviceCount | Question::Steps => Ok(vec![number(table.count())]),
+            Question::LastTime => Ok(optional(table.last_time().map(Value::Number))),
+            Question::DeviceAt(i) => table.nth(*i as u64).map(|id| vec![text(id)]),
             Question::States(id) => table.device(id).map(|device| states(table, device)),
             Question::Root(id) => Ok(optional(described(table, id)?.and_then(|d| d.root.as_deref()).map(text))),
             Question::Parent(id) => Ok(optional(described(table, id)?.and_then(|d| d.parent.as_deref()).map(text))),
             Question::Version(id) => Ok(optional(described(table, id)?.map(|d| Value::Number(stands(d.version))))),
-            Question::Filled(id) => table.filled(id).map(|n| vec![number(n)]),
+            Question::ValuesHeld(id) => table.filled(id).map(|n| vec![number(n)]),
             Question::Property(id, i) => table.property(id, *i as u64).map(declared),
             Question::Lane(ids, kind) => lane(table, ids, *kind),
         }
@@ -185,10 +185,10 @@ impl fmt::Display for Question {
     fn fmt(&self, f: &mut fmt::Formatter) -> fmt::Result {
         write!(f, "{}", self.name())?;
         match self {
-            Question::Count | Question::Last | Question::Steps => Ok(()),
-            Question::Nth(i) => write!(f, " {i}"),
+            Question::DeviceCount | Question::LastTime | Question::Steps => Ok(()),
+            Question::DeviceAt(i) => write!(f, " {i}"),
             Question::States(id) | Question::Root(id) | Question::Parent(id) => write!(f, " {}", hex(id)),
-            Question::Version(id) | Question::Filled(id) => write!(f, " {}", hex(id)),
+            Question::Version(id) | Question::ValuesHeld(id) => write!(f, " {}", hex(id)),
             Question::Property(id, i) => write!(f, " {} {i}", hex(id)),
             Question::Lane([id, node, property], kind) => {
                 write!(f, " {} {} {} {kind}", hex(id), hex(node), hex(property))

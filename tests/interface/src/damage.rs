@@ -171,13 +171,13 @@ fn shapes(question: &Question, first: u64, memory: &[u8]) -> Vec<Shape> {
     let any = UpTo(u64::MAX);
     let optional = |shapes: &[Shape]| if first == 0 { vec![UpTo(1)] } else { [&[UpTo(1)], shapes].concat() };
     match question {
-        Question::Count => vec![UpTo(memory[1].into())],
+        Question::DeviceCount => vec![UpTo(memory[1].into())],
         Question::Steps => vec![UpTo(memory[2].into())],
-        Question::Last | Question::Version(_) => optional(&[any]),
-        Question::Nth(_) => vec![Place],
+        Question::LastTime | Question::Version(_) => optional(&[any]),
+        Question::DeviceAt(_) => vec![Place],
         Question::States(_) => vec![UpTo(4), UpTo(4), any],
         Question::Root(_) | Question::Parent(_) => optional(&[Place]),
-        Question::Filled(_) => vec![UpTo(24)],
+        Question::ValuesHeld(_) => vec![UpTo(24)],
         Question::Property(..) => vec![Place, Place, UpTo(8), Place, UpTo(1), UpTo(1)],
         Question::Lane(..) => optional(&[any, Place]),
     }

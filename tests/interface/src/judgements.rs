@@ -96,8 +96,8 @@ fn names(random: &mut Random, tally: &mut Tally) -> Outcome {
     let word = datatype(random).word().as_bytes().to_vec();
     let name = if random.once_in(8) { near_utf8(random) } else { maybe_edit(random, 2, word) };
     let expected = Answer::judged(Datatype::from_word(&name).map(|datatype| vec![datatype_number(datatype)]));
-    tally.count("datatype_read", expected.number);
-    hold(random, &expected, &[], |out| raw::datatype_read(&name, out))
+    tally.count("is_datatype", expected.number);
+    hold(random, &expected, &[], |out| raw::is_datatype(&name, out))
         .map_err(|fault| format!("datatype {}: {fault}", hex(&name)))
 }
 
@@ -126,8 +126,8 @@ fn formats(random: &mut Random, tally: &mut Tally) -> Outcome {
     let format = near_format(random, datatype);
     let given = random.pick(&[0, 1, 1, 1, 2, 255]);
     let expected = Answer::judged(kept(datatype, (given != 0).then_some(&format)).map(|kept| vec![kept]));
-    tally.count("format_judge", expected.number);
-    hold(random, &expected, &[], |out| raw::format_judge(number, given, &format, out))
+    tally.count("is_format", expected.number);
+    hold(random, &expected, &[], |out| raw::is_format(number, given, &format, out))
         .map_err(|fault| format!("format {number} {given} {}: {fault}", hex(&format)))
 }
 
@@ -136,8 +136,8 @@ fn payloads(random: &mut Random, tally: &mut Tally) -> Outcome {
     let format = if random.once_in(10) { near_format(random, datatype) } else { format(random, datatype) };
     let payload = near_payload(random, datatype, &format);
     let expected = u8::from(is_payload(datatype, &format, &payload));
-    let answer = raw::payload_judge(number, &format, &payload);
-    tally.count("payload_judge", answer);
+    let answer = raw::is_payload(number, &format, &payload);
+    tally.count("is_payload", answer);
     if answer == expected {
         return Ok(());
     }

@@ -115,10 +115,10 @@ fn is_new(random: &mut Random, memory: &Guarded, tally: &mut Tally) -> Outcome {
     }
     let none = || Answer::of(Ok(vec![Value::Number(0)]));
     for (question, expected) in [
-        (Question::Count, none()),
-        (Question::Last, none()),
+        (Question::DeviceCount, none()),
+        (Question::LastTime, none()),
         (Question::Steps, none()),
-        (Question::Nth(0), Answer::refused(NUMBER)),
+        (Question::DeviceAt(0), Answer::refused(NUMBER)),
     ] {
         tally.count(question.name(), expected.number);
         hold(random, &expected, memory.bytes(), |out| question.ask(memory.bytes(), out))

@@ -10,15 +10,15 @@ use reference::table::Table;
 pub fn question(random: &mut Random, house: &House, table: &Table) -> Question {
     let id = some_id(random, house, table);
     match random.below(12) {
-        0 => Question::Count,
-        1 => Question::Last,
+        0 => Question::DeviceCount,
+        1 => Question::LastTime,
         2 => Question::Steps,
-        3 => Question::Nth(some_number(random, table.count())),
+        3 => Question::DeviceAt(some_number(random, table.count())),
         4 => Question::States(id),
         5 => Question::Root(id),
         6 => Question::Parent(id),
         7 => Question::Version(id),
-        8 => Question::Filled(id),
+        8 => Question::ValuesHeld(id),
         9 => property(random, table, id),
         _ => lane(random, house, table),
     }
@@ -82,7 +82,7 @@ fn lane(random: &mut Random, house: &House, table: &Table) -> Question {
 
 /// All about one device: every property and every lane.
 pub fn all_about(table: &Table, id: &[u8]) -> Vec<Question> {
-    let named = [Question::States, Question::Root, Question::Parent, Question::Version, Question::Filled];
+    let named = [Question::States, Question::Root, Question::Parent, Question::Version, Question::ValuesHeld];
     let mut questions: Vec<Question> = named.iter().map(|question| question(id.to_vec())).collect();
     let properties = table.device(id).map_or(&[][..], |device| device.properties());
     for (i, property) in properties.iter().enumerate() {

@@ -85,17 +85,17 @@ pub fn topic_flag(domain: &[u8], topic: &[u8], out: &mut [u64]) -> u8 {
     of_two(sys::homie5_topic_flag, domain, topic, out)
 }
 
-pub fn datatype_read(name: &[u8], out: &mut [u64]) -> u8 {
+pub fn is_datatype(name: &[u8], out: &mut [u64]) -> u8 {
     fenced([name], |[name]| unsafe { sys::homie5_is_datatype(name.as_ptr(), name.len(), out.as_mut_ptr(), out.len()) })
 }
 
-pub fn format_judge(datatype: u8, given: u8, format: &[u8], out: &mut [u64]) -> u8 {
+pub fn is_format(datatype: u8, given: u8, format: &[u8], out: &mut [u64]) -> u8 {
     fenced([format], |[format]| unsafe {
         sys::homie5_is_format(datatype, given, format.as_ptr(), format.len(), out.as_mut_ptr(), out.len())
     })
 }
 
-pub fn payload_judge(datatype: u8, format: &[u8], payload: &[u8]) -> u8 {
+pub fn is_payload(datatype: u8, format: &[u8], payload: &[u8]) -> u8 {
     fenced([format, payload], |[format, payload]| unsafe {
         sys::homie5_is_payload(datatype, format.as_ptr(), format.len(), payload.as_ptr(), payload.len())
     })
@@ -151,11 +151,11 @@ pub fn step_back(mem: &mut [u8]) -> u8 {
     unsafe { sys::homie5_step_back(mem.as_mut_ptr(), mem.len()) }
 }
 
-pub fn count(mem: &[u8], out: &mut [u64]) -> u8 {
+pub fn device_count(mem: &[u8], out: &mut [u64]) -> u8 {
     unsafe { sys::homie5_device_count(mem.as_ptr(), mem.len(), out.as_mut_ptr(), out.len()) }
 }
 
-pub fn last(mem: &[u8], out: &mut [u64]) -> u8 {
+pub fn last_time(mem: &[u8], out: &mut [u64]) -> u8 {
     unsafe { sys::homie5_last_time(mem.as_ptr(), mem.len(), out.as_mut_ptr(), out.len()) }
 }
 
@@ -163,7 +163,7 @@ pub fn steps(mem: &[u8], out: &mut [u64]) -> u8 {
     unsafe { sys::homie5_steps(mem.as_ptr(), mem.len(), out.as_mut_ptr(), out.len()) }
 }
 
-pub fn nth(mem: &[u8], i: usize, out: &mut [u64]) -> u8 {
+pub fn device_at(mem: &[u8], i: usize, out: &mut [u64]) -> u8 {
     unsafe { sys::homie5_device_at(mem.as_ptr(), mem.len(), i, out.as_mut_ptr(), out.len()) }
 }
 
@@ -183,7 +183,7 @@ pub fn version(mem: &[u8], id: &[u8], out: &mut [u64]) -> u8 {
     of_device(sys::homie5_version, mem, id, out)
 }
 
-pub fn filled(mem: &[u8], id: &[u8], out: &mut [u64]) -> u8 {
+pub fn values_held(mem: &[u8], id: &[u8], out: &mut [u64]) -> u8 {
     of_device(sys::homie5_values_held, mem, id, out)
 }
 

@@ -210,9 +210,9 @@ impl List<'_> {
 
     /// All that the table answers, of at most so many devices whole.
     pub fn ask_everything(&mut self, most: usize) -> Outcome {
-        let mut questions = vec![Question::Count, Question::Last, Question::Steps];
+        let mut questions = vec![Question::DeviceCount, Question::LastTime, Question::Steps];
         let table = self.book.table();
-        questions.extend((0..=table.count()).map(Question::Nth));
+        questions.extend((0..=table.count()).map(Question::DeviceAt));
         let mut ids: Vec<&Vec<u8>> = table.devices.keys().collect();
         self.random.shuffle(&mut ids);
         questions.extend(ids.iter().take(most).flat_map(|id| all_about(table, id)));
