@@ -3,6 +3,7 @@ pub mod Opening
 pub mod Book
 pub mod Demand
 pub mod Lists
+pub mod Ids
 pub mod Ranks
 pub mod Heads
 pub mod Changes

@@ -4,7 +4,7 @@ use native.Mathlib.Omega.{arith}
 use mathlib.Core.Path.{_≡_, sym, ap, _∙_}
 use mathlib.Core.Bool.{Bool, true, false}
 use mathlib.Core.List.{List, []}
-use lib.ListN.{length, getD, drop, length-take, List·getD-eq-default}
+use lib.ListN.{length, getD, drop, length-take, length-drop, List·getD-eq-default}
 use lib.Seq.{getD-take}
 use Rattle.memory.specs.Bytes.{part}
 use Rattle.memory.specs.Layout.{roomSize, roomAt, headAt, headSize, orderAt, capacity, count, slot}
@@ -15,8 +15,10 @@ use Rattle.memory.proofs.Lists.{length-map, getD-map}
 use Rattle.memory.proofs.Theorems as memory
 use Rattle.rules.specs.Table.{Device}
 use Rattle.rules.specs.Find.{firstAt}
-use Rattle.device.specs.Decode.{deviceOf}
+use Rattle.device.specs.Layout.{idMost}
+use Rattle.device.specs.Decode.{textAt, deviceOf}
 use Rattle.lookup.specs.Meaning.{tableOf, means}
+use Rattle.lookup.proofs.Ids.{id-in-room}
 use Rattle.lookup.proofs.Lists as search
 use Rattle.lookup.proofs.Lists.{Passed}
 
@@ -30,6 +32,10 @@ pub slots-few : (m : List ℕ) → length (order m) ≤ capacity m
 unfolding order part
 slots-few m = omega (arith, length-take (capacity m) (drop orderAt m))
 
+pub slot-inside : (m : List ℕ) (i : ℕ) → i < length (order m) → orderAt + i < length m
+unfolding order part
+slot-inside m i h = omega (arith, length-take (capacity m) (drop orderAt m), length-drop orderAt m)
+
 rooms-length : (m : List ℕ) → length (state m .now .rooms) ≡ length (order m)
 unfolding state current
 rooms-length m = length-map (room m) (order m)
@@ -41,6 +47,9 @@ unfolding state current room order
 room-is m i at h e =
     ap (λ (a : ℕ). part m a roomSize) e
     ∙ sym (getD-map (room m) (order m) i 0 [] h ∙ ap (room m) (getD-part m orderAt (capacity m) i (omega (arith, slots-few m))))
+
+pub id-is : (m : List ℕ) (i at : ℕ) → i < length (order m) → at ≡ roomAt (slot m i) → textAt m at idMost ≡ deviceOf (roomOf (state m .now) i) .id
+id-is m i at h e = id-in-room m at ∙ ap (λ (t : List ℕ). deviceOf t .id) (room-is m i at h e)
 
 pub room-none : (m : List ℕ) (i : ℕ) → length (order m) ≤ i → [] ≡ roomOf (state m .now) i
 room-none m i h = sym (List·getD-eq-default (state m .now .rooms) [] {n = i} (omega (arith, rooms-length m)))

@@ -3,13 +3,14 @@
 ghost use mathlib.Core.Path.{_≡_};
 ghost use mathlib.Core.Bool.{true, false};
 ghost use mathlib.Core.Option.{some};
-ghost use Prim.Native.Nat.{_<_};
+ghost use Prim.Native.Nat.{_^_, _<_};
 ghost use lib.ListN.{length, getD};
 ghost use Rattle.text.specs.Bytes.{eqBytes, lessBytes};
 ghost use Rattle.memory.specs.Bytes.{part};
 ghost use Rattle.memory.specs.State.{order, roomOf, state};
 ghost use Rattle.rules.specs.Find.{firstAt};
-ghost use Rattle.device.specs.Decode.{deviceOf};
+ghost use Rattle.device.specs.Layout.{idMost};
+ghost use Rattle.device.specs.Decode.{textAt, deviceOf};
 ghost use Rattle.lookup.specs.Meaning.{Sound, lastOf, lastIs, openingOf, means};
 use memory::HEAD_SIZE;
 
@@ -18,10 +19,19 @@ const LAST_FLAG: usize = 1;
 
 const LAST: usize = 2;
 
+// The most bytes of an ID.
+const ID_MOST: usize = 32;
+
 // The last time, or none.
 pub enum LastTime {
     Never,
     At(u64),
+}
+
+fn wide(x: u8) -> usize
+    ensures { λ r. ⌜ (r ≡ x) × (r < 256) ⌝ }
+{
+    x as usize
 }
 
 // The bytes from a place on, as many as asked for, as far as there are any.
@@ -82,14 +92,16 @@ pub fn room(mem: &[u8], i: u8) -> &[u8]
     cut(mem, memory::room_start(mem, i), memory::ROOM)
 }
 
-// The ID in a room.
-fn id_in(room: &[u8]) -> &[u8]
-    ensures { λ r. ⌜ now r ≡ deviceOf (now (room .entry)) .id ⌝ }
+// The ID at a place, as far as there are bytes; a length above the limit reads as the limit.
+fn id_from(mem: &[u8], at: usize) -> &[u8]
+    requires { ⌜ at < 2 ^ 30 ⌝ }
+    ensures { λ r. ⌜ now r ≡ textAt (now (mem .entry)) at idMost ⌝ }
 {
-    let place = device::id(room);
-    let start = place.start;
-    let end = place.end;
-    &room[start..end]
+    let n = wide(memory::byte(mem, at));
+    if n < ID_MOST {
+        return cut(mem, at + 1, n);
+    }
+    cut(mem, at + 1, ID_MOST)
 }
 
 // The ID in the room at a place of the order.
@@ -97,7 +109,23 @@ fn id_at(mem: &[u8], i: u8) -> &[u8]
     requires { ⌜ i < length (order (now mem)) ⌝ }
     ensures { λ r. ⌜ now r ≡ deviceOf (roomOf (state (now (mem .entry)) .now) i) .id ⌝ }
 {
-    id_in(cut(mem, memory::room_start(mem, i), memory::ROOM))
+    id_from(mem, memory::room_start(mem, i))
+}
+
+// Whether one byte shows that the ID at a place is another: the one where the last byte would stand.
+fn ends_otherwise(mem: &[u8], at: usize, id: &[u8]) -> bool
+    requires { ⌜ at < 2 ^ 30 ⌝ }
+    ensures { λ r. ⌜ (r ≡ true → eqBytes (textAt (now (mem .entry)) at idMost) (now (id .entry)) ≡ false) ⌝ }
+{
+    let n = id.len();
+    if n == 0 {
+        return false;
+    }
+    let end = at + n;
+    if mem.len() <= end {
+        return false;
+    }
+    mem[end] != id[n - 1]
 }
 
 // Whether it is this one.
@@ -105,12 +133,11 @@ fn has_id(mem: &[u8], i: u8, id: &[u8]) -> bool
     requires { ⌜ i < length (order (now mem)) ⌝ }
     ensures { λ r. ⌜ r ≡ eqBytes (deviceOf (roomOf (state (now (mem .entry)) .now) i) .id) (now (id .entry)) ⌝ }
 {
-    let start = memory::room_start(mem, i);
-    let end = start + memory::ROOM;
-    if mem.len() < end {
-        return text::same(id_at(mem, i), id);
+    let start = memory::ROOM + memory::ROOM * wide(mem[memory::ORDER + i as usize]);
+    if ends_otherwise(mem, start, id) {
+        return false;
     }
-    text::same(id_in(&mem[start..end]), id)
+    text::same(id_from(mem, start), id)
 }
 
 // The rank of the device with an ID; the number of devices where there is none.

@@ -1,66 +1,60 @@
-use Prim.Native.Nat.{ℕ, _+_}
+use Prim.Native.Nat.{ℕ}
 use native.Mathlib.Omega.{arith}
-use mathlib.Core.Path.{ap, _∙_}
+use mathlib.Core.Path.{sym, ap, _∙_}
 use mathlib.Core.List.{List}
 use Rattle.text.specs.Bytes.{eqBytes}
-use Rattle.memory.specs.Layout.{orderAt}
-use Rattle.device.specs.Decode.{deviceOf}
-use Rattle.lookup.proofs.Slices.{cut-whole}
-use Rattle.lookup.proofs.Ranks.{room-is}
+use Rattle.lookup.proofs.Ranks.{slot-inside, id-is}
 use borrow.Author.Needs.{needs}
 use Rattle.lookup.proofs.has_id.Statement.{statement}
 use Rattle.lookup.proofs.has_id.Tie as tie
 
-room-start-requires : tie.Need-room-start-requires
-room-start-requires c κs = search needs
+add-wide : tie.Need-add-wide
+add-wide c = search needs
 
-add-end : tie.Need-add-end
-add-end c = let e = c .before .before in omega (arith, c .room-start .ensures, e .shared-slice-known .given (orderAt + e .before .args .i))
+shared-slice-read-wide : tie.Need-shared-slice-read-wide
+shared-slice-read-wide c = slot-inside _ _ (c .before .before .before .pre)
 
-id-at-requires : tie.Need-id-at-requires
-id-at-requires c κs = search needs
+wide-requires : tie.Need-wide-requires
+wide-requires c κs = search needs
+
+mul-start : tie.Need-mul-start
+mul-start c = search needs
+
+add-start : tie.Need-add-start
+add-start c = search needs
+
+ends-otherwise-requires : tie.Need-ends-otherwise-requires
+ends-otherwise-requires c κs = search needs
+
+returns : tie.Need-returns
+returns c =
+    let w = c .before .before in
+    let e = w .before .before .before .before in
+    sym (c .before .ends-otherwise .ensures (c .if1 .taken)) ∙ ap (λ (t : List ℕ). eqBytes t (e .args .id .now)) (id-is _ _ _ (e .pre) (omega (arith, w .wide .ensures)))
+
+id-from-requires : tie.Need-id-from-requires
+id-from-requires c κs = search needs
 
 same-requires : tie.Need-same-requires
 same-requires c κs = search needs
 
-returns : tie.Need-returns
-returns c =
-    let a = c .before .before .before .before .before .before .args in
-    c .same .ensures ∙ ap (λ (t : List ℕ). eqBytes t (a .id .now)) (c .before .id-at .ensures)
-
-sub-id-in : tie.Need-sub-id-in
-sub-id-in c = search needs
-
-part-id-in-start : tie.Need-part-id-in-start
-part-id-in-start c = search needs
-
-part-id-in-end : tie.Need-part-id-in-end
-part-id-in-end c = search needs
-
-id-in-requires : tie.Need-id-in-requires
-id-in-requires c κs = search needs
-
-same-requires-2 : tie.Need-same-requires-2
-same-requires-2 c κs = search needs
-
 returns-2 : tie.Need-returns-2
 returns-2 c =
-    let r = c .before .before .before .before in
-    let e = r .before .before .before in
-    c .same2 .ensures ∙ ap (λ (t : List ℕ). eqBytes t (e .args .id .now)) (c .before .id-in .ensures ∙ ap (λ (t : List ℕ). deviceOf t .id) (cut-whole _ _ _ ∙ room-is _ _ _ (e .pre) (r .room-start .ensures)))
+    let w = c .before .before .before .before in
+    let e = w .before .before .before .before in
+    c .same .ensures ∙ ap (λ (t : List ℕ). eqBytes t (e .args .id .now)) (c .before .id-from .ensures ∙ id-is _ _ _ (e .pre) (omega (arith, w .wide .ensures)))
 
 pub has-id-spec : {M : Type 1} → statement M
 has-id-spec =
     tie.close
     (tie.spec
-    room-start-requires
-    add-end
-    id-at-requires
-    same-requires
+    add-wide
+    shared-slice-read-wide
+    wide-requires
+    mul-start
+    add-start
+    ends-otherwise-requires
     returns
-    sub-id-in
-    part-id-in-start
-    part-id-in-end
-    id-in-requires
-    same-requires-2
+    id-from-requires
+    same-requires
     returns-2)
