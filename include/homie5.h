@@ -179,6 +179,7 @@ uint8_t homie5_description_read(const uint8_t *own, size_t own_len, const uint8_
  * The i-th property that a description declares, from 0, by node ID, then property ID. Values: where its node's ID and
  * its own stand in the text; its datatype; what is kept of its format, HOMIE5_KEPT_..; where its format stands, if that
  * is HOMIE5_KEPT_AS_GIVEN, else 0; 1 where it is settable; 1 where it is retained (7 numbers). Refusals: 15, 3.
+ * The whole text is judged for each property.
  */
 uint8_t homie5_description_property(const uint8_t *own, size_t own_len, const uint8_t *text, size_t text_len, size_t i,
                                     uint64_t *out, size_t out_len);
