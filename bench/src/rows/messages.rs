@@ -2,7 +2,7 @@
 
 use crate::data::*;
 use crate::house::{ours_of, reference_of};
-use crate::measure::{batches, batches_after, Calls, Row, Sides, Unit};
+use crate::measure::{batches, batches_after, copying, Calls, Row, Sides, Unit};
 use crate::ours;
 use crate::undo::Table;
 use homie5::sys::homie5_size;
@@ -51,10 +51,20 @@ fn back_rows() -> Vec<Row> {
     vec![
         row("step back over a value", || backwards(values("level", ""))),
         row("step back over a state", || backwards(each(|id| state(id, "sleeping")))),
-        row("step back over a description", || backwards(each(|id| describe(id, &description(id))))),
+        described_row(),
         row("step back over a removal", || backwards(each(|id| state(id, "")))),
         row("value and step back, both", both),
     ]
+}
+
+/// What a step back over a description puts back: a room's bytes from the description on.
+const DESCRIBED: usize = 8192 - 42;
+
+fn described_row() -> Row {
+    Row::new("step back over a description", Unit::Call, || {
+        let feed = backwards(each(|id| describe(id, &description(id))));
+        Sides { limit: Some(copying(vec![0; DESCRIBED], 1)), ..sides(64, &feed) }
+    })
 }
 
 fn sides(depth: usize, feed: &Feed) -> Sides {
