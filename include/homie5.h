@@ -86,7 +86,7 @@ enum {
     HOMIE5_DATATYPE_JSON = 8
 };
 
-/* What is kept of a format. */
+/* What is kept of a format. Where two of these keep the same bytes, as for a given `:`, either may be answered. */
 enum {
     HOMIE5_KEPT_AS_GIVEN = 0,   /* its own bytes */
     HOMIE5_KEPT_COLON = 1,      /* `:` */

@@ -46,7 +46,8 @@ unfoldable pub showNamed : Named → Reply
 showNamed Unknown = no
 showNamed (Known d) = yes (codeOf d ∷ [])
 
--- what is kept of a valid format: 0 its own bytes, 1 `:`, 2 `false,true`, 3 nothing
+-- what is kept of a valid format: 0 its own bytes, 1 `:`, 2 `false,true`, 3 nothing. The promise is on the bytes that are kept: of two cases that keep the same ones
+-- (a given `:` as 0 or 1, a given `false,true` as 0 or 2, an empty format that is not kept as 0 or 3) it leaves open which is shown
 unfoldable pub showFormat : Format → Reply
 showFormat Bad = no
 showFormat AsGiven = yes (0 ∷ [])
