@@ -6,7 +6,7 @@
 #include <stdio.h>
 #include <stdlib.h>
 
-#include "../include/homie5.h"
+#include <homie5.h>
 
 enum { LIMIT = 65536 };
 

@@ -97,7 +97,7 @@ pub fn is_format(datatype: u8, format: &[u8], out: &mut Values) -> u8 {
 }
 
 pub fn is_payload(datatype: u8, format: &[u8], payload: &[u8]) -> u8 {
-    unsafe { sys::homie5_is_payload(datatype, format.as_ptr(), format.len(), payload.as_ptr(), payload.len()) }
+    unsafe { sys::homie5_is_payload(datatype, 1, format.as_ptr(), format.len(), payload.as_ptr(), payload.len()) }
 }
 
 pub fn description_judge(own: &[u8], text: &[u8]) -> u8 {

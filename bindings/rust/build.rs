@@ -1,4 +1,6 @@
-//! Finds the static library: `libviewer.a` in `HOMIE5_LIB_DIR`, else where `rt staticlib viewer` writes it.
+//! Names the static library to link, in the folder `HOMIE5_LIB_DIR`, else where `rt staticlib viewer` writes it:
+//! `libhomie5.a`, as it is installed, or where there is none `libviewer.a`, as it is proved and compiled. Where neither
+//! is there yet, whatever links nothing, `cargo doc` and `cargo check`, works all the same.
 
 use std::env;
 use std::path::PathBuf;
@@ -10,13 +12,13 @@ fn main() {
         Ok(named) => PathBuf::from(named),
         Err(_) => here.join("../../target/staticlib"),
     };
-    let library = folder.join("libviewer.a");
-    assert!(
-        library.is_file(),
-        "{} is missing: run `rt staticlib viewer`, or name its folder in HOMIE5_LIB_DIR",
-        library.display()
-    );
-    println!("cargo:rerun-if-changed={}", library.display());
+    let file = |name| folder.join(format!("lib{name}.a"));
+    let name = if file("homie5").is_file() { "homie5" } else { "viewer" };
+    if !file(name).is_file() {
+        let remedy = "run `rt staticlib viewer`, or name the library's folder in HOMIE5_LIB_DIR";
+        println!("cargo:warning={} has neither libhomie5.a nor libviewer.a: {remedy}", folder.display());
+    }
+    println!("cargo:rerun-if-changed={}", file(name).display());
     println!("cargo:rustc-link-search=native={}", folder.display());
-    println!("cargo:rustc-link-lib=static=viewer");
+    println!("cargo:rustc-link-lib=static={name}");
 }

@@ -5,7 +5,7 @@
 #include <stdlib.h>
 #include <string.h>
 
-#include "../../include/homie5.h"
+#include <homie5.h>
 
 /* A byte string as its pointer and length. */
 #define TEXT(s) (const uint8_t *)(s), strlen(s)
@@ -13,14 +13,14 @@
 /* No value of these tests. */
 #define GUARD UINT64_C(0xa5a5a5a5a5a5a5a5)
 
-static void guard(uint64_t *out)
+static inline void guard(uint64_t *out)
 {
     for (size_t i = 0; i <= HOMIE5_VALUES; i++)
         out[i] = GUARD;
 }
 
 /* Whether `out`, of this length, was given the values as far as they fit, and nothing else. */
-static bool given(const uint64_t *out, size_t out_len, const uint64_t *values, size_t count)
+static inline bool given(const uint64_t *out, size_t out_len, const uint64_t *values, size_t count)
 {
     for (size_t i = 0; i <= HOMIE5_VALUES; i++)
         if (out[i] != (i < out_len && i < count ? values[i] : GUARD))

@@ -116,6 +116,8 @@ static void messages(void)
     refuses(HOMIE5_OTHER_DOMAIN, T0 + 30, "other/5/lamp/$state", 1, "init");
     refuses(HOMIE5_NO_FORM, T0 + 30, "homie/5/lamp", 1, "init");
     refuses(HOMIE5_NOT_UTF8, T0 + 30, VALUE, 1, "\xff");
+    refuses(HOMIE5_NOT_UTF8, T0 + 30, "homie/5/lamp/light/mode", 1, "\xef\xbb\xbf");
+    refuses(HOMIE5_NOT_UTF8, T0 + 30, DESCRIBE, 1, "{\"x\":\"\xff\"}");
     refuses(HOMIE5_WRONG_FLAG, T0 + 30, SET, 1, "true");
     refuses(HOMIE5_NO_DEVICE, T0 + 30, "homie/5/fan/light/on", 1, "true");
     refuses(HOMIE5_FULL, T0 + 30, "homie/5/fan/$state", 1, "init");
@@ -138,7 +140,7 @@ static void device(void)
     ANSWERS(HOMIE5_OK, homie5_root(mem, LEN, LAMP, out, out_len), 1, root[1], root[2]);
     assert(homie5_parent(mem, LEN, LAMP, parent, 3) == HOMIE5_OK && stands(parent[1], parent[2], "hall"));
     ANSWERS(HOMIE5_OK, homie5_parent(mem, LEN, LAMP, out, out_len), 1, parent[1], parent[2]);
-    ANSWERS(HOMIE5_OK, homie5_version(mem, LEN, LAMP, out, out_len), 1, ((uint64_t)1 << 63) - 2);
+    ANSWERS(HOMIE5_OK, homie5_version(mem, LEN, LAMP, out, out_len), 1, (uint64_t)-2);
     ANSWERS(HOMIE5_OK, homie5_values_held(mem, LEN, LAMP, out, out_len), 1);
     ANSWERS(HOMIE5_OK, homie5_last_time(mem, LEN, out, out_len), 1, T0 + 30);
     ANSWERS(HOMIE5_OK, homie5_steps(mem, LEN, out, out_len), DEPTH);
@@ -188,6 +190,22 @@ static void steps_back(void)
     assert(kept());
 }
 
+/* A copy of the table's bytes, at an odd address, is the table as it was; what becomes of it does not touch the other. */
+static void checkpoint(void)
+{
+    uint8_t *copy = malloc(SIZE + 1);
+    uint8_t *table = copy + 1;
+    assert(copy != NULL);
+    memcpy(table, mem, SIZE);
+    keep();
+    assert(homie5_step_back(table, SIZE) == HOMIE5_OK);
+    ANSWERS(HOMIE5_OK, homie5_lane(table, SIZE, ON, HOMIE5_LANE_ASKED, out, out_len), 0);
+    ANSWERS(HOMIE5_OK, homie5_steps(table, SIZE, out, out_len), DEPTH - 1);
+    ANSWERS(HOMIE5_OK, homie5_last_time(table, SIZE, out, out_len), 1, T0 + 20);
+    assert(kept());
+    free(copy);
+}
+
 /* Every call on these bytes answers 6 and alters nothing. */
 static void not_sound(size_t len)
 {
@@ -216,6 +234,7 @@ int main(void)
     lanes();
     not_sound(SIZE - 1);
     not_sound(0);
+    checkpoint();
     steps_back();
     for (size_t i = SIZE; i < LEN; i++)
         assert(mem[i] == 0x5a);

@@ -6,7 +6,8 @@ import re
 QUIET = re.compile(r'//[^\n]*|b?"(?:\\.|[^"\\])*"|b\'(?:\\.|[^\'\\])\'|/\*.*?\*/', re.S)
 HEAD = re.compile(r'\bfn\s+([A-Za-z_]\w*)')
 IMPL = re.compile(r'^[ \t]*impl(?:<[^>]*>)?\s+([A-Za-z_]\w*)(?:<[^>]*>)?\s*\{', re.M)
-CLAUSE = re.compile(r'\s(?:ghost|requires|ensures|measure)\s*\{')
+# a clause may have a name, as in `ensures meant { .. }`
+CLAUSE = re.compile(r'\s(?:ghost|requires|ensures|measure)(?:\s+[A-Za-z_]\w*)?\s*\{')
 
 
 def quiet(text):

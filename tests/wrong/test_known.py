@@ -36,8 +36,10 @@ class Known(unittest.TestCase):
     def test_by_themselves(self):
         with tempfile.TemporaryDirectory() as folder:
             os.mkdir(os.path.join(folder, 'json'))
-            shutil.copy(os.path.join(KNOWN, 'json', 'right.edit'), os.path.join(folder, 'json'))
-            self.assertEqual(verdicts(folder), ({'right': 'NOT REFUSED'}, 1))
+            for label in ('right', 'shape', 'more_calls'):
+                path = shutil.copy(os.path.join(KNOWN, 'json', label + '.edit'), os.path.join(folder, 'json'))
+                self.assertEqual(verdicts(folder), ({label: self.due[label]}, 1))
+                os.remove(path)
 
 
 if __name__ == '__main__':

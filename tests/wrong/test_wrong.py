@@ -7,6 +7,7 @@ import unittest
 sys.path.insert(0, os.path.dirname(os.path.abspath(__file__)))
 import edits
 import functions
+import trials
 import verdicts
 
 FILE = '''// fn comment() { }
@@ -14,6 +15,7 @@ use a::B;
 pub fn first(s: &[u8], n: [u8; 4]) -> [u8; 2]
     requires { ⌜ 0 < n ⌝ }
     ensures { λ r. ⌜ f { r } ⌝ }
+    ensures meant { λ r. ⌜ g r ⌝ }
 {
     let a = b"}{";
     if s[0] == b'}' { // }
@@ -49,12 +51,13 @@ class Functions(unittest.TestCase):
         self.assertEqual(self.function_at('7'), 'part::B::read')
 
     def test_contracts_heads_and_braces_are_in_no_body(self):
-        for text in ('0 < n', 'f { r }', 'pub fn read', '{\n    let a', 'use a::B'):
+        for text in ('0 < n', 'f { r }', 'g r', 'pub fn read', '{\n    let a', 'use a::B'):
             self.assertIsNone(self.function_at(text), text)
 
     def test_outside_sees_all_but_bodies(self):
         self.assertEqual(functions.outside(FILE), functions.outside(FILE.replace('[3, 4]', '[5, 6]')))
-        self.assertNotEqual(functions.outside(FILE), functions.outside(FILE.replace('0 < n', '1 < n')))
+        for contract, other in (('0 < n', '1 < n'), ('g r', 'h r')):
+            self.assertNotEqual(functions.outside(FILE), functions.outside(FILE.replace(contract, other)))
         self.assertNotEqual(functions.outside(FILE), functions.outside(FILE.replace('[3, 4]', '[3, 4] } fn more() { 1')))
 
 
@@ -78,7 +81,7 @@ class Edits(unittest.TestCase):
 
     def test_the_function_of_an_edit(self):
         self.assertEqual(self.edit('file: src/lib.rt\nold: [3, 4]\nnew: [3, 5]\n').function, 'first')
-        for alone in ('old: 0 < n\nnew: 1 < n\n', 'old: [3, 4]\nnew: [3, 5]\nold:         7\nnew:         8\n', 'old: missing\nnew: x\n'):
+        for alone in ('old: 0 < n\nnew: 1 < n\n', 'old: g r\nnew: h r\n', 'old: [3, 4]\nnew: [3, 5]\nold:         7\nnew:         8\n', 'old: missing\nnew: x\n'):
             self.assertIsNone(self.edit('file: src/lib.rt\n' + alone).function, alone)
         self.assertIsNone(self.edit('file: specs/Lib.antt\nold: a\nnew: b\n').function)
 
@@ -99,6 +102,7 @@ def said(*lines):
 
 FACT = ('proofs/a/Proof.antt:3:4: error: expected x', '  found y')
 FIELD = ('proofs/a/Proof.antt:3:4: error: the record `R`', '  has no field `if2`')
+OTHER_NEED = ('proofs/a/Proof.antt:9:5: error: `a-spec`: expected type `tie.Need-count-requires`, but this has type `tie.Need-lane-requires`',)
 WAITING = ('proofs/b/Proof.antt:1:1: error: `a` was not admitted (it has holes or undetermined implicits, or was rejected), so this cannot be checked',)
 BOTH = {'a': 'crate::a', 'b': 'crate::b'}
 
@@ -110,6 +114,8 @@ class Verdicts(unittest.TestCase):
     def test_alone(self):
         self.assertIsNone(verdicts.fault(1, said(*FACT)))
         self.assertIn('NO FACT', verdicts.fault(1, said(*FIELD)))
+        self.assertIn('NO FACT', verdicts.fault(1, said(*OTHER_NEED)))
+        self.assertIsNone(verdicts.fault(1, said(*OTHER_NEED, *FACT)))
         self.assertIn('NOT REFUSED', verdicts.fault(0, 'logic=proved\n'))
         self.assertIn('NOT JUDGED', verdicts.fault(2, 'error: no such thing\n'))
 
@@ -122,12 +128,60 @@ class Verdicts(unittest.TestCase):
 
     def test_shape_and_waiting_show_nothing(self):
         self.assertEqual(self.shown(BOTH, *FIELD, 'fn crate::a: not proved'), {})
+        self.assertEqual(self.shown(BOTH, *OTHER_NEED, 'fn crate::a: not proved'), {})
         self.assertEqual(list(self.shown(BOTH, *FACT, *WAITING, 'fn crate::a: not proved', 'fn crate::b: not proved: it calls crate::a')), ['a'])
 
     def test_what_no_edit_accounts_for_voids_the_run(self):
         self.assertEqual(self.shown({'b': 'crate::b'}, *FACT, 'fn crate::a: not proved'), {})
         self.assertEqual(self.shown(BOTH, *FACT, 'fn crate::a: not proved', 'fn crate::c: not proved'), {})
         self.assertEqual(self.shown(BOTH, *FACT, 'proofs/Laws.antt:1:1: error: expected x', 'fn crate::a: not proved'), {})
+
+
+CRATE = {
+    'src/lib.rt': 'mod part;\nfn a() { 1 }\nfn b() { 2 }\nfn c()\n    ensures { ⌜ x ⌝ }\n{\n    3\n}\n',
+    'src/part.rt': 'fn d() { 4 }\n',
+    'proofs/+a+b/Proof.antt': '',
+    'must-fail/contract.edit': 'file: src/lib.rt\nold: ⌜ x ⌝\nnew: ⌜ y ⌝\n',
+    'must-fail/in_a.edit': 'file: src/lib.rt\nold: 1\nnew: 7\n',
+    'must-fail/in_b.edit': 'file: src/lib.rt\nold: 2\nnew: 7\n',
+    'must-fail/in_d.edit': 'file: src/part.rt\nold: 4\nnew: 7\n',
+}
+
+
+class Trials(unittest.TestCase):
+    def setUp(self):
+        folder = tempfile.TemporaryDirectory()
+        self.addCleanup(folder.cleanup)
+        self.root = self.folder = folder.name
+        for file, text in CRATE.items():
+            self.put(os.path.join('crates/k', file), text)
+        self.crate = trials.Crate(self, 'k', ['crates/k/must-fail'])
+
+    def put(self, file, text):
+        path = os.path.join(self.root, file)
+        os.makedirs(os.path.dirname(path), exist_ok=True)
+        edits.write(path, text)
+
+    def test_a_cycle_has_one_proof(self):
+        self.assertEqual([self.crate.folder_of(function) for function in ('k::a', 'b', 'part::d')], ['+a+b', '+a+b', 'part/d'])
+
+    def test_a_batch_has_no_contract_and_a_cycle_once(self):
+        labels = [[edit.label for edit in batch] for batch in self.crate.batches()]
+        self.assertEqual(labels, [['in_a', 'in_d'], ['in_b'], ['contract']])
+
+    def test_bodies_and_nothing_else(self):
+        copy = os.path.join(self.root, 'crates/k')
+        self.assertTrue(self.crate.only_bodies(copy))
+        self.put('crates/k/src/part.rt', 'fn d() { 5 }\n')
+        self.assertTrue(self.crate.only_bodies(copy))
+        self.put('crates/k/src/lib.rt', CRATE['src/lib.rt'].replace('⌜ x ⌝', '⌜ y ⌝'))
+        self.assertFalse(self.crate.only_bodies(copy))
+
+    def test_what_rt_ci_left_is_read(self):
+        for label, log in (('in_a', said(*FACT)), ('in_b', said(*FIELD)), ('in_d', said(*OTHER_NEED))):
+            self.put('target/must-fail/k/%s/.log' % label, log)
+        results = dict((line.split(':')[0], refused) for refused, line in trials.tried_by_ci(self.root, ['k']))
+        self.assertEqual(results, {'k/contract': False, 'k/in_a': True, 'k/in_b': False, 'k/in_d': False})
 
 
 if __name__ == '__main__':

@@ -21,6 +21,17 @@ def fresh_copy(source, target):
         shutil.copytree(source, target)
 
 
+def tried_by_ci(root, names):
+    """[(whether an edit was refused as it must be, the line that says so)], by the logs that `rt ci` left of the edits it tried."""
+    results = []
+    for name in names:
+        for edit in edits.edits_in(os.path.join(root, 'crates', name, 'must-fail'), {}):
+            log = os.path.join(root, 'target', 'must-fail', name, edit.label, '.log')
+            wrong = verdicts.fault(1, edits.read(log)) if os.path.isfile(log) else 'NOT TRIED: rt ci left no log'
+            results.append((wrong is None, '%s/%s: %s' % (name, edit.label, wrong or 'refused by rt ci because a fact fails')))
+    return results
+
+
 class Copy:
     """A copy of the repository over the libraries that are proved there."""
 
@@ -56,16 +67,23 @@ class Place:
         self.root, self.logs = root, logs
         memory = '/dev/shm' if os.access('/dev/shm', os.W_OK) else os.path.join(root, 'target')
         self.folder = tempfile.mkdtemp(prefix='wrong-', dir=memory)
+        self.copies = queue.Queue()
+        try:
+            self.make_copies(jobs)
+        except BaseException:
+            self.remove()
+            raise
+
+    def make_copies(self, jobs):
         # the prover copies libraries to its temporary folder
         temporary = os.path.join(self.folder, 'tmp')
         os.makedirs(temporary)
         environment = dict(os.environ, TMPDIR=temporary)
-        made = [Copy(root, os.path.join(self.folder, str(i)), environment) for i in range(jobs)]
+        made = [Copy(self.root, os.path.join(self.folder, str(i)), environment) for i in range(jobs)]
         # the name of the folder that this kit's `rt dev` keeps: that of a first, small check
         made[0].check('answer', self.log('answer', '.unedited'))
         folders = os.listdir(made[0].kept('answer')) if os.path.isdir(made[0].kept('answer')) else []
         self.kept_folder = folders[0] if len(folders) == 1 else None
-        self.copies = queue.Queue()
         for copy in made:
             self.copies.put(copy)
 

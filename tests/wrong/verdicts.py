@@ -9,8 +9,10 @@ WAITS = re.compile(r'was not admitted \(it has holes or undetermined implicits, 
 # a function without a proof file whose facts are not proved
 NO_PROOF = re.compile(r'^fn (\S+): no proof: expected [^;]*; (`search` does not close .*)$', re.M)
 STATE = re.compile(r'^(?:fn|struct|enum) (\S+): (.*)$', re.M)
-# a proof that no longer fits the shape of the code
+# a proof that no longer fits the shape of the code: it names what is not there ..
 SHAPE = re.compile(r'that can be named from here|record `[^`]*`\s+has no field')
+# .. or it answers a need where the code now has another
+OTHER_NEED = re.compile(r'expected type `tie\.[^`]*`, but this has type `tie\.')
 
 
 def is_proved(status, said):
@@ -32,7 +34,8 @@ def first_place(said):
 
 
 def is_shape(errors):
-    return any(SHAPE.search(what) for _, what in errors)
+    """Whether these errors show a proof's shape and no fact."""
+    return any(SHAPE.search(what) for _, what in errors) or bool(errors) and all(OTHER_NEED.search(what) for _, what in errors)
 
 
 def fault(status, said):

@@ -58,7 +58,7 @@ fn back_rows() -> Vec<Row> {
 }
 
 /// What a step back over a description puts back: a room's bytes from the description on.
-const DESCRIBED: usize = 8192 - 42;
+const DESCRIBED: usize = 8192 - 403;
 
 fn described_row() -> Row {
     Row::new("step back over a description", Unit::Call, || {

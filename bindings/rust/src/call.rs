@@ -12,7 +12,8 @@ use crate::Refusal;
 /// Calls that read byte strings, then numbers, and answer with values.
 macro_rules! questions {
     ($($name:ident = $call:ident($($bytes:ident),*; $($number:ident: $kind:ty),*);)*) => {$(
-        pub fn $name($($bytes: &[u8],)* $($number: $kind,)*) -> Result<Values, Refusal> {
+        pub fn $name($($bytes: impl AsRef<[u8]>,)* $($number: $kind,)*) -> Result<Values, Refusal> {
+            $(let $bytes = $bytes.as_ref();)*
             // SAFETY: see the head of this file.
             ask(|out| unsafe {
                 sys::$call($($bytes.as_ptr(), $bytes.len(),)* $($number,)* out.as_mut_ptr(), out.len())
@@ -66,7 +67,7 @@ pub fn trace_append(buf: &mut [u8], used: usize, event: &Event) -> Result<Values
     })
 }
 
-pub fn is_datatype(name: &[u8]) -> Option<Values> {
+pub fn is_datatype(name: &str) -> Option<Values> {
     // SAFETY: see the head of this file.
     judge(|out| unsafe { sys::homie5_is_datatype(name.as_ptr(), name.len(), out.as_mut_ptr(), out.len()) })
 }
@@ -80,17 +81,21 @@ pub fn is_format(datatype: u8, format: Option<&[u8]>) -> Option<Values> {
     })
 }
 
-pub fn is_payload(datatype: u8, format: &[u8], payload: &[u8]) -> bool {
+pub fn is_payload(datatype: u8, format: Option<&[u8]>, payload: &[u8]) -> bool {
+    let given = u8::from(format.is_some());
+    let format = format.unwrap_or_default();
     // SAFETY: see the head of this file.
-    yes(unsafe { sys::homie5_is_payload(datatype, format.as_ptr(), format.len(), payload.as_ptr(), payload.len()) })
+    yes(unsafe {
+        sys::homie5_is_payload(datatype, given, format.as_ptr(), format.len(), payload.as_ptr(), payload.len())
+    })
 }
 
-pub fn description_judge(own: &[u8], text: &[u8]) -> Result<(), Refusal> {
+pub fn description_judge(own: &str, text: &[u8]) -> Result<(), Refusal> {
     // SAFETY: see the head of this file.
     taken(unsafe { sys::homie5_description_judge(own.as_ptr(), own.len(), text.as_ptr(), text.len()) })
 }
 
-pub fn open(mem: &mut [u8], domain: &[u8], devices: usize, depth: usize) -> Result<(), Refusal> {
+pub fn open(mem: &mut [u8], domain: &str, devices: usize, depth: usize) -> Result<(), Refusal> {
     // SAFETY: see the head of this file.
     taken(unsafe { sys::homie5_open(mem.as_mut_ptr(), mem.len(), domain.as_ptr(), domain.len(), devices, depth) })
 }

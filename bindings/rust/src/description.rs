@@ -2,6 +2,7 @@
 
 use crate::call;
 use crate::payload::{Datatype, Kept};
+use crate::values::id;
 use crate::{Property, Refusal};
 
 /// Whether a text is a valid description of the device of the ID `own`. Refuses with `BadDescription`.
@@ -9,10 +10,10 @@ use crate::{Property, Refusal};
 /// ```
 /// use homie5::{description, Refusal};
 ///
-/// assert_eq!(description::judge(b"lamp", br#"{"homie":"5.0","version":1}"#), Ok(()));
-/// assert_eq!(description::judge(b"lamp", br#"{"homie":"5.0"}"#), Err(Refusal::BadDescription));
+/// assert_eq!(description::judge("lamp", br#"{"homie":"5.0","version":1}"#), Ok(()));
+/// assert_eq!(description::judge("lamp", br#"{"homie":"5.0"}"#), Err(Refusal::BadDescription));
 /// ```
-pub fn judge(own: &[u8], text: &[u8]) -> Result<(), Refusal> {
+pub fn judge(own: &str, text: &[u8]) -> Result<(), Refusal> {
     call::description_judge(own, text)
 }
 
@@ -23,12 +24,12 @@ pub fn judge(own: &[u8], text: &[u8]) -> Result<(), Refusal> {
 ///
 /// let text = br#"{"homie":"5.0","version":-7,"root":"hall","nodes":{
 ///     "light":{"properties":{"on":{"datatype":"boolean","settable":true}}}}}"#;
-/// let lamp = Description::read(b"lamp", text)?;
-/// assert_eq!((lamp.version, lamp.root, lamp.parent), (-7, Some(&b"hall"[..]), None));
+/// let lamp = Description::read("lamp", text)?;
+/// assert_eq!((lamp.version, lamp.root, lamp.parent), (-7, Some("hall"), None));
 /// assert_eq!(lamp.properties, 1);
 ///
 /// let on = lamp.property(0)?;
-/// assert_eq!((on.node, on.id), (&b"light"[..], &b"on"[..]));
+/// assert_eq!((on.node, on.id), ("light", "on"));
 /// assert_eq!((on.datatype, on.format), (Datatype::Boolean, &b"false,true"[..]));
 /// assert!(on.settable && on.retained);
 /// assert_eq!(lamp.property(1), Err(Refusal::NoSuchNumber));
@@ -36,28 +37,28 @@ pub fn judge(own: &[u8], text: &[u8]) -> Result<(), Refusal> {
 /// ```
 #[derive(Clone, Copy, Debug, PartialEq, Eq)]
 pub struct Description<'a> {
-    own: &'a [u8],
+    own: &'a str,
     text: &'a [u8],
     /// Its version.
     pub version: i64,
     /// The ID of the device's root.
-    pub root: Option<&'a [u8]>,
+    pub root: Option<&'a str>,
     /// The ID of the device's parent.
-    pub parent: Option<&'a [u8]>,
+    pub parent: Option<&'a str>,
     /// How many properties it declares.
     pub properties: usize,
 }
 
 impl<'a> Description<'a> {
     /// Reads a description of the device of the ID `own`. Refuses with `BadDescription`.
-    pub fn read(own: &'a [u8], text: &'a [u8]) -> Result<Description<'a>, Refusal> {
+    pub fn read(own: &'a str, text: &'a [u8]) -> Result<Description<'a>, Refusal> {
         let values = call::description_read(own, text)?;
         Ok(Description {
             own,
             text,
             version: values.version(0),
-            root: values.flag(1).then(|| values.string(2, text)),
-            parent: values.flag(3).then(|| values.string(4, text)),
+            root: values.flag(1).then(|| id(values.string(2, text))),
+            parent: values.flag(3).then(|| id(values.string(4, text))),
             properties: values.size(5),
         })
     }
@@ -68,8 +69,8 @@ impl<'a> Description<'a> {
         let kept = values.one_of(3, Kept::from_number);
         let format = if kept == Kept::AsGiven { values.string(4, self.text) } else { b"" };
         Ok(Property {
-            node: values.string(0, self.text),
-            id: values.string(1, self.text),
+            node: id(values.string(0, self.text)),
+            id: id(values.string(1, self.text)),
             datatype: values.one_of(2, Datatype::from_number),
             format: kept.of(format),
             settable: values.flag(5),

@@ -8,7 +8,7 @@
 //! use homie5::trace::Trace;
 //!
 //! let file = std::fs::read("../../samples/lamp.trace")?;
-//! let mut table = Table::open(b"homie", 4, 3)?;
+//! let mut table = Table::open("homie", 4, 3)?;
 //! let mut answers = Vec::new();
 //! for event in Trace::new(&file).events()? {
 //!     answers.push(match table.message(&event) {
@@ -18,18 +18,25 @@
 //! }
 //! assert_eq!(answers, [0, 0, 0, 14]);
 //!
-//! let asked = table.lane(b"lamp", b"light", b"on", Lane::Asked)?;
+//! for device in table.devices() {
+//!     println!("{} {}", device.id, device.states.effective);
+//!     for (property, lanes) in device.properties() {
+//!         println!("  {}/{} {:?}", property.node, property.id, lanes.value);
+//!     }
+//! }
+//! let asked = table.lane("lamp", "light", "on", Lane::Asked)?;
 //! assert_eq!(asked.map(|held| held.payload), Some(&b"true"[..]));
 //!
 //! table.step_back()?;
-//! assert_eq!(table.lane(b"lamp", b"light", b"on", Lane::Asked)?, None);
+//! assert_eq!(table.lane("lamp", "light", "on", Lane::Asked)?, None);
 //! assert_eq!(table.steps(), 2);
 //! # Ok::<(), Box<dyn std::error::Error>>(())
 //! ```
 //!
 //! Every call answers, or refuses with a [`Refusal`] and alters nothing. Byte strings are slices of what was lent, or of
-//! the table's own memory. No call panics unless the library breaks the contract of its header: numbers that it names,
-//! places inside the bytes that they stand in, strings with a closing quote, tables that stay sound.
+//! the table's own memory; IDs, which are ASCII, are text. No call panics unless the library breaks the contract of its
+//! header: places inside the bytes that they stand in, strings with a closing quote, tables that stay sound. A number
+//! that this version does not name, say a refusal of a later library, is carried as `Unknown`.
 
 #![deny(missing_docs, unsafe_code, unsafe_op_in_unsafe_fn)]
 
@@ -42,10 +49,12 @@ pub mod trace;
 
 #[allow(unsafe_code)]
 mod call;
+mod device;
 mod named;
 mod property;
 mod refusal;
 mod values;
+mod writer;
 
 pub use property::Property;
 pub use refusal::Refusal;

@@ -7,22 +7,22 @@ use crate::payload::Datatype;
 ///
 /// let text = br#"{"homie":"5.0","version":1,"nodes":{"n":{"properties":{"p":{"datatype":"json","format":"x"}}}}}"#;
 /// let property = Property {
-///     node: b"n",
-///     id: b"p",
+///     node: "n",
+///     id: "p",
 ///     datatype: Datatype::Json,
 ///     format: b"",
 ///     settable: false,
 ///     retained: true,
 /// };
-/// assert_eq!(Description::read(b"lamp", text)?.property(0), Ok(property));
+/// assert_eq!(Description::read("lamp", text)?.property(0), Ok(property));
 /// # Ok::<(), homie5::Refusal>(())
 /// ```
 #[derive(Clone, Copy, Debug, PartialEq, Eq, Hash)]
 pub struct Property<'a> {
     /// The ID of its node.
-    pub node: &'a [u8],
+    pub node: &'a str,
     /// Its ID.
-    pub id: &'a [u8],
+    pub id: &'a str,
     /// Its datatype.
     pub datatype: Datatype,
     /// Its kept format; empty where none is kept.

@@ -8,6 +8,8 @@ use crate::trace::Event;
 use crate::values::Values;
 use crate::{Property, Refusal};
 
+pub use crate::device::{Device, Lanes};
+
 /// The most devices, and the most steps back.
 const MOST: usize = 64;
 
@@ -48,14 +50,14 @@ named! {
 /// ```
 /// use homie5::{table::{State, States, Table}, trace::Event};
 ///
-/// let mut table = Table::open(b"homie", 2, 0)?;
+/// let mut table = Table::open("homie", 2, 0)?;
 /// let mut send = |topic: &str, payload: &str| {
 ///     table.message(&Event { time: 5, topic: topic.as_bytes(), retained: true, payload: payload.as_bytes() })
 /// };
 /// send("homie/5/lamp/$state", "ready")?;
 /// send("homie/5/lamp/$description", r#"{"homie":"5.0","version":1,"root":"hub"}"#)?;
 /// send("homie/5/hub/$state", "lost")?;
-/// assert_eq!(table.states(b"lamp"), Ok(States { own: State::Ready, effective: State::Lost, time: 5 }));
+/// assert_eq!(table.states("lamp"), Ok(States { own: State::Ready, effective: State::Lost, time: 5 }));
 /// # Ok::<(), homie5::Refusal>(())
 /// ```
 #[derive(Clone, Copy, Debug, PartialEq, Eq, Hash)]
@@ -75,10 +77,12 @@ pub struct States {
 /// use homie5::trace::Trace;
 ///
 /// let file = std::fs::read("../../samples/lamp.trace")?;
-/// let mut table = Table::open(b"homie", 1, 0)?;
-/// Trace::new(&file).events()?.for_each(|event| drop(table.message(&event)));
+/// let mut table = Table::open("homie", 1, 0)?;
+/// for event in Trace::new(&file).events()? {
+///     let _ = table.message(&event);
+/// }
 /// let held = Held { time: 4294967300, payload: b"true" };
-/// assert_eq!(table.lane(b"lamp", b"light", b"on", Lane::Asked)?, Some(held));
+/// assert_eq!(table.lane("lamp", "light", "on", Lane::Asked)?, Some(held));
 /// # Ok::<(), Box<dyn std::error::Error>>(())
 /// ```
 #[derive(Clone, Copy, Debug, PartialEq, Eq, Hash)]
@@ -92,14 +96,15 @@ pub struct Held<'a> {
 /// A table of devices, which owns its memory.
 ///
 /// What it answers is what the messages that stand make of it: those taken, less those stepped back. Refused calls and
-/// questions change nothing. Its memory is always a sound table, so no call answers [`Refusal::NotSound`].
+/// questions change nothing. Its memory is always a sound table, so no call answers [`Refusal::NotSound`]. A clone keeps
+/// what stands now, steps back included: `examples/scrub.rs` jumps far back to clones made on the way.
 ///
 /// ```
 /// use homie5::table::{Held, Lane, State, Table};
 /// use homie5::trace::Event;
 /// use homie5::Refusal;
 ///
-/// let mut table = Table::open(b"homie", 4, 3)?;
+/// let mut table = Table::open("homie", 4, 3)?;
 /// let description = br#"{"homie":"5.0","version":1,"nodes":{
 ///     "light":{"properties":{"on":{"datatype":"boolean","settable":true}}}}}"#;
 /// let mut send = |time, topic: &str, retained, payload: &[u8]| {
@@ -110,16 +115,15 @@ pub struct Held<'a> {
 /// assert_eq!(send(4294967300, "homie/5/lamp/light/on/set", false, b"true"), Ok(()));
 /// assert_eq!(send(4294967301, "homie/5/lamp/light/on", true, b"TRUE"), Err(Refusal::BadPayload));
 ///
-/// assert_eq!(table.devices().collect::<Vec<_>>(), [b"lamp"]);
-/// let states = table.states(b"lamp")?;
+/// let states = table.states("lamp")?;
 /// assert_eq!((states.own, states.effective, states.time), (State::Init, State::Init, 4294967290));
 /// let asked = Held { time: 4294967300, payload: b"true" };
-/// assert_eq!(table.lane(b"lamp", b"light", b"on", Lane::Asked), Ok(Some(asked)));
-/// assert_eq!(table.lane(b"lamp", b"light", b"on", Lane::Value), Ok(None));
+/// assert_eq!(table.lane("lamp", "light", "on", Lane::Asked), Ok(Some(asked)));
+/// assert_eq!(table.lane("lamp", "light", "on", Lane::Value), Ok(None));
 /// assert_eq!((table.steps(), table.last_time()), (3, Some(4294967300)));
 ///
 /// table.step_back()?;
-/// assert_eq!(table.lane(b"lamp", b"light", b"on", Lane::Asked), Ok(None));
+/// assert_eq!(table.lane("lamp", "light", "on", Lane::Asked), Ok(None));
 /// assert_eq!(table.steps(), 2);
 /// # Ok::<(), Refusal>(())
 /// ```
@@ -131,7 +135,7 @@ pub struct Table {
 impl Table {
     /// Opens a table for a domain, with room for `devices` devices (1 to 64) and `depth` steps back (0 to 64). Refuses
     /// with `BadOpening`.
-    pub fn open(domain: &[u8], devices: usize, depth: usize) -> Result<Table, Refusal> {
+    pub fn open(domain: &str, devices: usize, depth: usize) -> Result<Table, Refusal> {
         // a larger number is refused by the library, whatever the memory
         let mut memory = vec![0; homie5_size(devices.min(MOST), depth.min(MOST))];
         call::open(&mut memory, domain, devices, depth)?;
@@ -140,10 +144,17 @@ impl Table {
 
     /// A table from the bytes of one, say from a file; any bytes are safe. Refuses with `NotSound`.
     ///
+    /// Kept bytes may be used later, on another machine too, by the same version of the library: the layout may change
+    /// with the version.
+    ///
+    /// Bytes that no calls made may be sound too. Then an ID may have other bytes, and is shown up to the first that is
+    /// no text; no question may find it again, and [`Table::devices`] passes such a device over, [`Device::properties`]
+    /// such a property.
+    ///
     /// ```
     /// use homie5::{table::Table, Refusal};
     ///
-    /// let kept = Table::open(b"homie", 1, 0)?.into_bytes();
+    /// let kept = Table::open("homie", 1, 0)?.into_bytes();
     /// assert_eq!(Table::from_bytes(kept)?.device_count(), 0);
     /// assert_eq!(Table::from_bytes(vec![1, 2, 3]).err(), Some(Refusal::NotSound));
     /// # Ok::<(), Refusal>(())
@@ -153,7 +164,7 @@ impl Table {
         Ok(Table { memory })
     }
 
-    /// Its bytes.
+    /// Its bytes, for [`Table::from_bytes`] of the same version.
     pub fn as_bytes(&self) -> &[u8] {
         &self.memory
     }
@@ -178,7 +189,7 @@ impl Table {
         sound(call::steps(&self.memory)).size(0)
     }
 
-    /// The time of the last message taken.
+    /// The time of the last message that stands.
     pub fn last_time(&self) -> Option<u64> {
         let values = sound(call::last_time(&self.memory));
         values.flag(0).then(|| values.number(1))
@@ -190,17 +201,22 @@ impl Table {
     }
 
     /// The ID of the i-th device, from 0, by ascending ID bytes. Refuses with `NoSuchNumber`.
-    pub fn device_at(&self, i: usize) -> Result<&[u8], Refusal> {
-        Ok(call::device_at(&self.memory, i)?.part(0, &self.memory))
+    pub fn device_at(&self, i: usize) -> Result<&str, Refusal> {
+        Ok(call::device_at(&self.memory, i)?.id(0, &self.memory))
     }
 
-    /// The IDs of all devices, ascending.
-    pub fn devices(&self) -> impl Iterator<Item = &[u8]> {
-        (0..self.device_count()).map_while(|i| self.device_at(i).ok())
+    /// The device of an ID, with all that is asked of it. Refuses with `NoDevice`.
+    pub fn device<'a>(&'a self, id: &'a str) -> Result<Device<'a>, Refusal> {
+        Device::of(self, id)
+    }
+
+    /// All devices, by ascending ID bytes.
+    pub fn devices(&self) -> impl Iterator<Item = Device<'_>> {
+        (0..self.device_count()).filter_map(|i| self.device(self.device_at(i).ok()?).ok())
     }
 
     /// The states of a device. Refuses with `NoDevice`.
-    pub fn states(&self, id: &[u8]) -> Result<States, Refusal> {
+    pub fn states(&self, id: &str) -> Result<States, Refusal> {
         let values = call::states(&self.memory, id)?;
         Ok(States {
             own: values.one_of(0, State::from_number),
@@ -210,36 +226,36 @@ impl Table {
     }
 
     /// The root of a device, as its description names it. Refuses with `NoDevice`.
-    pub fn root(&self, id: &[u8]) -> Result<Option<&[u8]>, Refusal> {
+    pub fn root(&self, id: &str) -> Result<Option<&str>, Refusal> {
         Ok(self.relative(&call::root(&self.memory, id)?))
     }
 
     /// The parent of a device, as its description names it. Refuses with `NoDevice`.
-    pub fn parent(&self, id: &[u8]) -> Result<Option<&[u8]>, Refusal> {
+    pub fn parent(&self, id: &str) -> Result<Option<&str>, Refusal> {
         Ok(self.relative(&call::parent(&self.memory, id)?))
     }
 
-    fn relative(&self, values: &Values) -> Option<&[u8]> {
-        values.flag(0).then(|| values.part(1, &self.memory))
+    fn relative(&self, values: &Values) -> Option<&str> {
+        values.flag(0).then(|| values.id(1, &self.memory))
     }
 
     /// The version of a device's description. Refuses with `NoDevice`.
-    pub fn version(&self, id: &[u8]) -> Result<Option<i64>, Refusal> {
+    pub fn version(&self, id: &str) -> Result<Option<i64>, Refusal> {
         let values = call::version(&self.memory, id)?;
         Ok(values.flag(0).then(|| values.version(1)))
     }
 
     /// How many properties of a device hold a value. Refuses with `NoDevice`.
-    pub fn values_held(&self, id: &[u8]) -> Result<usize, Refusal> {
+    pub fn values_held(&self, id: &str) -> Result<usize, Refusal> {
         Ok(call::values_held(&self.memory, id)?.size(0))
     }
 
     /// The i-th property of a device, from 0, by node ID, then property ID. Refuses with `NoDevice`, `NoSuchNumber`.
-    pub fn property(&self, id: &[u8], i: usize) -> Result<Property<'_>, Refusal> {
+    pub fn property(&self, id: &str, i: usize) -> Result<Property<'_>, Refusal> {
         let values = call::property(&self.memory, id, i)?;
         Ok(Property {
-            node: values.part(0, &self.memory),
-            id: values.part(2, &self.memory),
+            node: values.id(0, &self.memory),
+            id: values.id(2, &self.memory),
             datatype: values.one_of(4, Datatype::from_number),
             format: values.part(5, &self.memory),
             settable: values.flag(7),
@@ -248,12 +264,12 @@ impl Table {
     }
 
     /// All properties of a device, in that order; none of a device that is not in the table.
-    pub fn properties<'a>(&'a self, id: &'a [u8]) -> impl Iterator<Item = Property<'a>> {
+    pub fn properties<'a>(&'a self, id: &'a str) -> impl Iterator<Item = Property<'a>> {
         (0..).map_while(move |i| self.property(id, i).ok())
     }
 
     /// What a lane of a property holds. Refuses with `NoDevice`, `NoProperty`.
-    pub fn lane(&self, id: &[u8], node: &[u8], property: &[u8], lane: Lane) -> Result<Option<Held<'_>>, Refusal> {
+    pub fn lane(&self, id: &str, node: &str, property: &str, lane: Lane) -> Result<Option<Held<'_>>, Refusal> {
         let values = call::lane(&self.memory, id, node, property, lane.number())?;
         Ok(values.flag(0).then(|| Held { time: values.number(1), payload: values.part(2, &self.memory) }))
     }

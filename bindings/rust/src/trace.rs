@@ -4,13 +4,15 @@ use crate::call;
 use crate::values::Values;
 use crate::Refusal;
 
+pub use crate::writer::Writer;
+
 /// One message with its time, as a trace holds it and as a table takes it.
 ///
 /// ```
 /// use homie5::{table::Table, trace::Event};
 ///
 /// let event = Event { time: 4294967296, topic: b"homie/5/lamp/$state", retained: true, payload: b"init" };
-/// let mut table = Table::open(b"homie", 1, 0)?;
+/// let mut table = Table::open("homie", 1, 0)?;
 /// table.message(&event)?;
 /// assert_eq!(table.last_time(), Some(4294967296));
 /// # Ok::<(), homie5::Refusal>(())
@@ -79,7 +81,66 @@ impl<'a> Trace<'a> {
 
     /// A reading place before the first event.
     pub fn cursor(&self) -> Cursor<'a> {
-        Cursor { file: self.file, place: 0 }
+        self.cursor_at(0)
+    }
+
+    /// A reading place before the event of a number, say of one that [`seek`](Trace::seek) gives; any number is safe.
+    pub fn cursor_at(&self, place: usize) -> Cursor<'a> {
+        Cursor { file: self.file, place }
+    }
+
+    /// How many events are before a time: the number of the first event at or after it, or the count where there is none.
+    ///
+    /// This holds of traces that [`check`](Trace::check) takes, whose times never fall, and it refuses none of them. It
+    /// reads some 30 events at most, by halving, and judges no others: of other bytes it refuses with `BadHeader`,
+    /// `BadEntry`, or gives some number up to the count.
+    ///
+    /// ```
+    /// use homie5::trace::Trace;
+    ///
+    /// let file = std::fs::read("../../samples/lamp.trace")?;
+    /// let trace = Trace::new(&file);
+    /// trace.check()?;
+    /// assert_eq!((trace.seek(0), trace.seek(4294967300), trace.seek(u64::MAX)), (Ok(0), Ok(1), Ok(4)));
+    ///
+    /// let mut cursor = trace.cursor_at(trace.seek(4294967300)?);
+    /// assert_eq!(cursor.advance()?.topic, b"homie/5/lamp/$description");
+    /// assert_eq!(cursor.advance()?.topic, b"homie/5/lamp/light/on/set");
+    /// # Ok::<(), Box<dyn std::error::Error>>(())
+    /// ```
+    pub fn seek(&self, time: u64) -> Result<usize, Refusal> {
+        self.halve(|event| event.time < time)
+    }
+
+    /// How many events are at or before a time: the number of the first event after it, or the count where there is none.
+    /// A table that was fed so many shows that time. Otherwise as [`seek`](Trace::seek).
+    ///
+    /// ```
+    /// use homie5::trace::Trace;
+    ///
+    /// let file = std::fs::read("../../samples/lamp.trace")?;
+    /// let trace = Trace::new(&file);
+    /// trace.check()?;
+    /// assert_eq!((trace.seek_after(0), trace.seek_after(4294967300), trace.seek_after(u64::MAX)), (Ok(0), Ok(3), Ok(4)));
+    /// # Ok::<(), Box<dyn std::error::Error>>(())
+    /// ```
+    pub fn seek_after(&self, time: u64) -> Result<usize, Refusal> {
+        self.halve(|event| event.time <= time)
+    }
+
+    /// The number of the first event that is not passed, where every event before one that is passed is passed too.
+    fn halve(&self, passed: impl Fn(&Event) -> bool) -> Result<usize, Refusal> {
+        // a file has fewer events than bytes; one more, so that the empty file is judged too
+        let (mut first, mut end) = (0, self.file.len() + 1);
+        while first < end {
+            let middle = first + (end - first) / 2;
+            match self.event(middle) {
+                Ok(event) if passed(&event) => first = middle + 1,
+                Ok(_) | Err(Refusal::NoSuchNumber) => end = middle,
+                Err(refusal) => return Err(refusal),
+            }
+        }
+        Ok(first)
     }
 
     /// Checks the whole file, then goes through its events.

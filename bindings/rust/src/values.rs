@@ -23,21 +23,13 @@ pub fn judge(call: impl FnOnce(&mut [u64]) -> u8) -> Option<Values> {
 pub fn taken(number: u8) -> Result<(), Refusal> {
     match number {
         0 => Ok(()),
-        _ => Err(known(u64::from(number), Refusal::from_number)),
+        _ => Err(Refusal::from_number(number)),
     }
 }
 
 /// What a judgement says that returned this number.
 pub fn yes(number: u8) -> bool {
     number != 0
-}
-
-/// What a number stands for. The header names every number: another one would be a fault of the library.
-fn known<T>(number: u64, from_number: impl Fn(u8) -> Option<T>) -> T {
-    match u8::try_from(number).ok().and_then(from_number) {
-        Some(one) => one,
-        None => panic!("the library answered {number}, which stands for nothing"),
-    }
 }
 
 impl Values {
@@ -56,19 +48,24 @@ impl Values {
         self.0[at] != 0
     }
 
-    /// A version, which stands plus 2^63.
+    /// A version, which stands in two's complement.
     pub fn version(&self, at: usize) -> i64 {
-        self.0[at].wrapping_sub(1 << 63) as i64
+        self.0[at] as i64
     }
 
-    /// One of a list.
-    pub fn one_of<T>(&self, at: usize, from_number: impl Fn(u8) -> Option<T>) -> T {
-        known(self.0[at], from_number)
+    /// One of a list; no list has as many as 255.
+    pub fn one_of<T>(&self, at: usize, from_number: impl Fn(u8) -> T) -> T {
+        from_number(u8::try_from(self.0[at]).unwrap_or(u8::MAX))
     }
 
     /// The bytes from the place that stands here to the place behind it.
     pub fn part<'a>(&self, at: usize, bytes: &'a [u8]) -> &'a [u8] {
         &bytes[self.size(at)..self.size(at + 1)]
+    }
+
+    /// The ID from the place that stands here to the place behind it.
+    pub fn id<'a>(&self, at: usize, bytes: &'a [u8]) -> &'a str {
+        id(self.part(at, bytes))
     }
 
     /// The string of a JSON text whose opening quote stands here, up to the next quote.
@@ -77,4 +74,9 @@ impl Values {
         let end = inside.iter().position(|&byte| byte == b'"');
         &inside[..end.expect("the library shows strings that end")]
     }
+}
+
+/// An ID as text. IDs are ASCII; of other bytes, which only memory from elsewhere shows as one, the front that is UTF-8.
+pub fn id(bytes: &[u8]) -> &str {
+    bytes.utf8_chunks().next().map_or("", |chunk| chunk.valid())
 }

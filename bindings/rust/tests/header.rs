@@ -1,7 +1,7 @@
 //! This crate says what `include/homie5.h` says.
 
 use homie5::payload::{Datatype, Kept};
-use homie5::sys::{homie5_size, HOMIE5_VALUES};
+use homie5::sys::{homie5_size, HOMIE5_STACK, HOMIE5_VALUES, HOMIE5_VERSION};
 use homie5::table::{Lane, State};
 use homie5::topic::Flag;
 use homie5::Refusal;
@@ -10,11 +10,25 @@ const HEADER: &str = include_str!("../../../include/homie5.h");
 const CALLS: &str = include_str!("../src/sys.rs");
 const TOPICS: &str = include_str!("../src/topic.rs");
 
-/// The calls of the header: name, what it returns, arguments, with Rust's types.
-fn calls_of_header() -> Vec<String> {
-    let declared = HEADER.split(";\n").filter_map(|text| text.strip_suffix(')')?.rsplit_once('('));
+/// The header less the functions that it defines itself.
+fn declarations(header: &str) -> String {
+    let mut inside = false;
+    let mut outside = |line: &&str| {
+        inside |= line.starts_with("static inline ");
+        let keep = !inside;
+        inside &= *line != "}";
+        keep
+    };
+    header.lines().filter(|line| outside(line)).map(|line| line.to_string() + "\n").collect()
+}
+
+/// The calls of a header: name, what it returns, arguments, with Rust's types.
+fn calls_of_header(header: &str) -> Vec<String> {
+    let text = declarations(header);
+    let declared = text.split(";\n").filter_map(|text| text.strip_suffix(')')?.rsplit_once('('));
     let heads = declared.filter_map(|(text, list)| Some((text.lines().last()?, list)));
-    heads.map(|(head, list)| format!("{}({})", of_c(head), arguments(list, of_c))).collect()
+    let bare = heads.map(|(head, list)| (head.strip_prefix("HOMIE5_API ").unwrap_or(head), list));
+    bare.map(|(head, list)| format!("{}({})", of_c(head), arguments(list, of_c))).collect()
 }
 
 /// The same of the calls declared here.
@@ -47,16 +61,31 @@ fn of_c(declared: &str) -> String {
 #[test]
 fn calls_are_declared_alike() {
     let ours = calls_declared();
-    assert_eq!(calls_of_header(), ours);
+    assert_eq!(calls_of_header(HEADER), ours);
     assert_eq!(ours.len(), CALLS.matches("pub fn homie5_").count());
+}
+
+#[test]
+fn prefixes_and_functions_of_the_header_are_passed_over() {
+    let header =
+        "#define HOMIE5_API\n/* A call. */\nHOMIE5_API uint8_t homie5_a(const uint8_t *b,\n  size_t b_len);\n\n\
+        static inline const char *homie5_c(uint8_t d)\n{\n    if (d) {\n        e(d);\n    }\n    return f(d);\n}\n\
+        uint8_t homie5_g(uint8_t *h);\n";
+    assert_eq!(calls_of_header(header), ["homie5_a: u8(b: *const u8, b_len: usize)", "homie5_g: u8(h: *mut u8)"]);
 }
 
 #[test]
 fn sizes_are_those_of_the_header() {
     let (room, sum) = (homie5_size(0, 0), "((size_t)(devices) + (size_t)(depth) + 1)");
     assert!(HEADER.contains(&format!("\n#define HOMIE5_VALUES {HOMIE5_VALUES}\n")));
+    assert!(HEADER.contains(&format!("\n#define HOMIE5_STACK {HOMIE5_STACK}\n")));
     assert!(HEADER.contains(&format!("\n#define HOMIE5_SIZE(devices, depth) ((size_t){room} * {sum})\n")));
     assert_eq!(homie5_size(64, 3), room * (64 + 3 + 1));
+}
+
+#[test]
+fn the_version_is_that_of_the_header() {
+    assert!(HEADER.contains(&format!("\n#define HOMIE5_VERSION \"{HOMIE5_VERSION}\"\n")));
 }
 
 /// `NoSuchNumber` as `NO_SUCH_NUMBER`.
@@ -74,7 +103,9 @@ fn upper(name: &str) -> String {
 /// The numbers that the header gives to names, by ascending name.
 fn numbers() -> Vec<(String, u8)> {
     let names = HEADER.split("HOMIE5_").filter_map(|rest| rest.split_once(" = "));
-    let mut numbers: Vec<_> = names.filter_map(|(name, rest)| Some((name.to_string(), number(rest)?))).collect();
+    let whole =
+        names.filter(|(name, _)| name.bytes().all(|b| b == b'_' || b.is_ascii_uppercase() || b.is_ascii_digit()));
+    let mut numbers: Vec<_> = whole.filter_map(|(name, rest)| Some((name.to_string(), number(rest)?))).collect();
     numbers.sort();
     numbers
 }
@@ -111,10 +142,19 @@ fn numbers_are_those_of_the_header() {
 }
 
 #[test]
+fn every_number_is_carried() {
+    for number in 0..=u8::MAX {
+        let refusal = Refusal::from_number(number);
+        assert_eq!(refusal.number(), number);
+        assert_eq!(Refusal::ALL.contains(&refusal), (1..=18).contains(&number));
+        assert_eq!(format!("{:?}", State::from_number(number)) == format!("Unknown({number})"), number > 4);
+    }
+}
+
+#[test]
 fn refusals_have_the_words_of_the_header() {
     for refusal in Refusal::ALL {
-        let name = format!(" HOMIE5_{} = {}", upper(&format!("{refusal:?}")), refusal.number());
-        let line = HEADER.lines().find(|line| line.contains(&name)).unwrap_or_default();
-        assert!(line.ends_with(&format!(" /* {refusal} */")), "{refusal}: {line}");
+        let case = format!("case HOMIE5_{}:\n        return \"{refusal}\";\n", upper(&format!("{refusal:?}")));
+        assert!(HEADER.contains(&case), "{case}");
     }
 }

@@ -10,34 +10,34 @@ use homie5::Refusal;
 
 #[test]
 fn every_form_of_topic() {
-    let (device, node, property) = (&b"d"[..], &b"n"[..], &b"p"[..]);
+    let (device, node, property) = ("d", "n", "p");
     let forms = [
         ("d/$state", Topic::State { device }, Flag::Retained),
         ("d/$description", Topic::Description { device }, Flag::Retained),
         ("d/n/p", Topic::Value { device, node, property }, Flag::AsProperty),
         ("d/n/p/set", Topic::Set { device, node, property }, Flag::NotRetained),
         ("d/n/p/$target", Topic::Target { device, node, property }, Flag::Retained),
-        ("d/$alert/x", Topic::Alert { device, name: b"x" }, Flag::Retained),
-        ("d/$log/warn", Topic::Log { device, level: b"warn" }, Flag::Either),
-        ("$broadcast/x/y", Topic::Broadcast { ids: b"x/y" }, Flag::Either),
-        ("d/$x", Topic::Other { device, word: b"x", levels: b"" }, Flag::Either),
-        ("d/$x/y/Z", Topic::Other { device, word: b"x", levels: b"y/Z" }, Flag::Either),
+        ("d/$alert/x", Topic::Alert { device, name: "x" }, Flag::Retained),
+        ("d/$log/warn", Topic::Log { device, level: "warn" }, Flag::Either),
+        ("$broadcast/x/y", Topic::Broadcast { ids: "x/y" }, Flag::Either),
+        ("d/$x", Topic::Other { device, word: "x", levels: b"" }, Flag::Either),
+        ("d/$x/y/Z", Topic::Other { device, word: "x", levels: b"y/Z" }, Flag::Either),
     ];
     for (rest, form, flag) in forms {
         let topic = format!("homie/5/{rest}");
-        assert_eq!(Topic::read(b"homie", topic.as_bytes()), Ok(form));
-        assert_eq!(Flag::of(b"homie", topic.as_bytes()), Ok(flag));
+        assert_eq!(Topic::read("homie", topic.as_bytes()), Ok(form));
+        assert_eq!(Flag::of("homie", topic.as_bytes()), Ok(flag));
     }
-    assert_eq!(Topic::read(b"", b""), Err(Refusal::OtherDomain));
-    assert_eq!(Flag::of(b"homie", b"homie/5/"), Err(Refusal::NoForm));
+    assert_eq!(Topic::read("", b""), Err(Refusal::OtherDomain));
+    assert_eq!(Flag::of("homie", b"homie/5/"), Err(Refusal::NoForm));
 }
 
 #[test]
 fn datatypes_by_their_names() {
     for datatype in Datatype::ALL {
-        assert_eq!(Datatype::from_name(datatype.words().as_bytes()), Some(*datatype));
+        assert_eq!(Datatype::from_name(datatype.words()), Some(*datatype));
     }
-    assert_eq!((Datatype::from_name(b""), Datatype::from_name(b"strings")), (None, None));
+    assert_eq!((Datatype::from_name(""), Datatype::from_name("strings")), (None, None));
 }
 
 #[test]
@@ -54,8 +54,32 @@ fn kept_formats() {
     for (datatype, format, expected) in kept {
         assert_eq!(datatype.judge_format(format), expected, "{datatype} {format:?}");
     }
-    assert!(!Datatype::String.is_payload(b"", b""));
-    assert!(Datatype::String.is_payload(b"", b"\0"));
+}
+
+#[test]
+fn payloads_with_and_without_a_format() {
+    for format in [None, Some(&b""[..])] {
+        assert!(!Datatype::String.is_payload(format, b""));
+        assert!(Datatype::String.is_payload(format, b"\0"));
+    }
+    for (datatype, payload, missing) in
+        [(Datatype::Integer, "7", ":"), (Datatype::Float, "0.5", ":"), (Datatype::Boolean, "true", "false,true")]
+    {
+        assert!(datatype.is_payload(None, payload.as_bytes()) && !datatype.is_payload(None, b"high"), "{datatype}");
+        assert!(datatype.is_payload(Some(missing.as_bytes()), payload.as_bytes()), "{datatype}");
+        assert!(!datatype.is_payload(Some(b""), payload.as_bytes()), "{datatype}");
+    }
+    assert!(Datatype::Enum.is_payload(Some(b"low,high"), b"low") && !Datatype::Enum.is_payload(None, b"low"));
+    assert!(!Datatype::Color.is_payload(None, b"rgb,0,0,0"));
+}
+
+#[test]
+fn payloads_by_the_format_that_a_property_keeps() {
+    let [level, on, mode] = declared();
+    for (property, valid) in [(level, "-7"), (on, "false"), (mode, "high")] {
+        let judged = |payload: &str| property.datatype.is_payload(Some(property.format), payload.as_bytes());
+        assert!(judged(valid) && !judged("medium"), "{}", property.id);
+    }
 }
 
 #[test]
@@ -69,21 +93,21 @@ fn formats_that_are_not_kept_are_not_shown() {
     for (fields, datatype, format) in fields {
         let nodes = format!(r#"{{"n":{{"properties":{{"p":{{{fields}}}}}}}}}"#);
         let text = format!(r#"{{"homie":"5.0","version":1,"nodes":{nodes}}}"#);
-        let read = Description::read(b"lamp", text.as_bytes()).unwrap().property(0).unwrap();
+        let read = Description::read("lamp", text.as_bytes()).unwrap().property(0).unwrap();
         assert_eq!((read.datatype, read.format), (datatype, format));
-        assert_eq!((read.node, read.id, read.settable, read.retained), (&b"n"[..], &b"p"[..], false, true));
+        assert_eq!((read.node, read.id, read.settable, read.retained), ("n", "p", false, true));
     }
 }
 
 #[test]
 fn descriptions_declare() {
-    let read = Description::read(b"lamp", DESCRIPTION.as_bytes()).unwrap();
-    assert_eq!((read.version, read.root, read.parent), (i64::MIN, Some(&b"hub"[..]), Some(&b"hall"[..])));
+    let read = Description::read("lamp", DESCRIPTION.as_bytes()).unwrap();
+    assert_eq!((read.version, read.root, read.parent), (i64::MIN, Some("hub"), Some("hall")));
     let properties: Vec<_> = (0..read.properties).map(|i| read.property(i).unwrap()).collect();
     assert_eq!(properties, declared());
     assert_eq!(read.property(3), Err(Refusal::NoSuchNumber));
-    let own_root = Description::read(b"hub", DESCRIPTION.as_bytes());
+    let own_root = Description::read("hub", DESCRIPTION.as_bytes());
     assert_eq!(own_root, Err(Refusal::BadDescription));
-    let least = Description::read(b"lamp", br#"{"version":9223372036854775807,"homie":"5.0"}"#).unwrap();
+    let least = Description::read("lamp", br#"{"version":9223372036854775807,"homie":"5.0"}"#).unwrap();
     assert_eq!((least.version, least.root, least.parent, least.properties), (i64::MAX, None, None, 0));
 }

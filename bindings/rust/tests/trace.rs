@@ -3,7 +3,7 @@
 mod common;
 
 use common::{event, LATE, LATEST};
-use homie5::trace::{self, Trace};
+use homie5::trace::{self, Trace, Writer};
 use homie5::Refusal;
 
 #[test]
@@ -70,4 +70,46 @@ fn reading_judges_one_entry_alone() {
     let mut cursor = trace.cursor();
     assert!(cursor.advance().is_ok());
     assert_eq!((cursor.advance(), cursor.place()), (Err(Refusal::BadEntry), 1));
+}
+
+/// A trace of events with these times.
+fn timed(times: &[u64]) -> Vec<u8> {
+    let mut writer = Writer::new();
+    for time in times {
+        writer.append(&event(*time, "a", true, "b")).unwrap();
+    }
+    writer.finish().unwrap()
+}
+
+#[test]
+fn seeking_counts_the_events_before_a_time() {
+    for times in [&[][..], &[0], &[5, 5, 5], &[0, 0, 7, LATE, LATE, LATEST], &[1, 2, 3, 4, 5, 6, 7, 8]] {
+        let file = timed(times);
+        let trace = Trace::new(&file);
+        for time in [0, 1, 4, 5, 6, 7, 8, 9, LATE - 1, LATE, LATE + 1, LATEST - 1, LATEST] {
+            assert_eq!(trace.seek(time), Ok(times.iter().filter(|each| **each < time).count()));
+            assert_eq!(trace.seek_after(time), Ok(times.iter().filter(|each| **each <= time).count()));
+        }
+    }
+}
+
+#[test]
+fn seeking_leads_the_cursor() {
+    let file = timed(&[1, 4, 4, 9]);
+    let trace = Trace::new(&file);
+    let mut cursor = trace.cursor_at(trace.seek(4).unwrap());
+    let times: Vec<_> = std::iter::from_fn(|| cursor.advance().ok()).map(|event| event.time).collect();
+    assert_eq!((times, cursor.place()), (vec![4, 4, 9], 4));
+    let mut past = trace.cursor_at(usize::MAX);
+    assert_eq!((past.advance(), past.place()), (Err(Refusal::NoSuchNumber), usize::MAX));
+}
+
+#[test]
+fn seeking_refuses_as_reading_does() {
+    let mut file = timed(&[1, 2, 3]);
+    for short in [&[][..], &file[..15], &file[..file.len() - 1]] {
+        assert_eq!(Trace::new(short).seek(0), Err(Refusal::BadHeader));
+    }
+    file[16 + 24 + 14] = 2; // the second entry's flags
+    assert_eq!(Trace::new(&file).seek(2), Err(Refusal::BadEntry));
 }

@@ -1,4 +1,5 @@
 pub mod Lead
 pub mod Accepts
 pub mod Steps
+pub mod Repeats
 pub mod Theorems

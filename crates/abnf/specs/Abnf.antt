@@ -1,5 +1,5 @@
 -- ABNF (RFC 5234) over bytes: its expressions as data, and which byte strings each one stands for.
-use Prim.Native.Nat.{ℕ, zero, suc, _+_, _≤_}
+use Prim.Native.Nat.{ℕ, zero, suc, _-_, _≤_}
 use mathlib.Core.List.{List, [], _∷_, _++_}
 
 -- An expression. N names the rules that may be used before they are written, so that a rule may stand within itself.
@@ -59,9 +59,9 @@ abbrev pub upTo : {N : Type 0} → ℕ → Abnf N → Abnf N
 upTo zero a = ε
 upTo (suc n) a = opt (a · upTo n a)
 
--- loA and up to n more: lo*(lo+n)A
+-- lo*hiA, at least lo and at most hi times (with hi below lo: exactly lo times)
 abbrev pub repeat : {N : Type 0} → ℕ → ℕ → Abnf N → Abnf N
-repeat lo n a = times lo a · upTo n a
+repeat lo hi a = times lo a · upTo (hi - lo) a
 
 -- a grammar that names no rule has no rules; w is a word of it
 abbrev pub noRules : ⊥ → Abnf ⊥

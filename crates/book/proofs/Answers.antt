@@ -3,15 +3,8 @@ use Prim.Native.Nat.{ℕ, zero, suc}
 use mathlib.Core.Path.{_≡_, refl}
 use mathlib.Core.List.{List, [], _∷_}
 use lib.ListN.{length, getD}
-use Rattle.book.specs.Book.{Outcome, refuses, takes, Rules, CallOf, message, question, stepBack, steps, tableOf, Book, told, backSays, says, after, answers, State, popSays, answer}
-
--- it holds of "taken", of a step back refused, of each number of steps, of each refusal and each reply
-pub record Everywhere (r : Rules) (P : r .Answer → Type 0) : Type 0 where
-  pub taken : P (r .taken)
-  pub none : P (r .none)
-  pub offers : (n : ℕ) → P (r .offer n)
-  pub refusals : (t : r .Table) (x : r .Message) (a : r .Answer) → r .judge t x ≡ refuses a → P a
-  pub replies : (t : r .Table) (q : r .Question) → P (r .reply t q)
+use Rattle.book.specs.Book.{Outcome, refuses, takes, Rules, CallOf, message, question, stepBack, steps, tableAfter, Book, told, backSays, says, after, answers, State, popSays, answer}
+use Rattle.book.specs.Promises.{Everywhere}
 
 module _ (r : Rules) (P : r .Answer → Type 0) (h : Everywhere r P) where
   judged : (o : Outcome (r .Table) (r .Answer)) (t : r .Table) (x : r .Message) → r .judge t x ≡ o → P (told r o)
@@ -19,8 +12,8 @@ module _ (r : Rules) (P : r .Answer → Type 0) (h : Everywhere r P) where
   judged (takes u) t x e = h .taken
 
   said : (b : Book r) (c : CallOf r) → P (says r b c)
-  said b (message x) = judged (r .judge (tableOf r (b .standing)) x) (tableOf r (b .standing)) x refl
-  said b (question q) = h .replies (tableOf r (b .standing)) q
+  said b (message x) = judged (r .judge (tableAfter r (b .standing)) x) (tableAfter r (b .standing)) x refl
+  said b (question q) = h .replies (tableAfter r (b .standing)) q
   said b stepBack = go (b .number)
     where
       go : (n : ℕ) → P (backSays r n)

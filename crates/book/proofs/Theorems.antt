@@ -4,8 +4,9 @@ use mathlib.Core.Path.{_≡_, refl, ap, ap₂, _∙_}
 use mathlib.Core.List.{List, _∷_}
 use lib.ListN.{getD}
 use Rattle.book.specs.Book.{Rules, CallOf, Book, blank, answers, State, fresh, answer, become, outcomes, Run, done, call}
+use Rattle.book.specs.Promises.{Everywhere, Meant}
 use Rattle.book.proofs.Agree.{fresh-all}
-use Rattle.book.proofs.Answers.{Everywhere, all-said, all-answered}
+use Rattle.book.proofs.Answers.{all-said, all-answered}
 
 -- the state with steps back and the book
 pub agree : (r : Rules) (j : ℕ) (cs : List (CallOf r)) → outcomes r j (fresh r) cs ≡ answers r j (blank r) cs
@@ -19,13 +20,7 @@ everywhere = all-said
 pub every-state : (r : Rules) (P : r .Answer → Type 0) → Everywhere r P → (s : State (r .Table)) (c : CallOf r) → P (answer r s c)
 every-state = all-answered
 
--- Memory of any kind, what it means, and a relation that each call's contract cites: in sound memory the answer is the state's, the
--- memory after is sound, and it means the state after the call.
-pub record Meant (r : Rules) (j : ℕ) {M : Type 0} (Sound : M → Type 0) (means : M → State (r .Table)) (Did : CallOf r → M → M → r .Answer → Type 0) : Type 0 where
-  pub answered : (c : CallOf r) (m m′ : M) (a : r .Answer) → Did c m m′ a → Sound m → a ≡ answer r (means m) c
-  pub kept : (c : CallOf r) (m m′ : M) (a : r .Answer) → Did c m m′ a → Sound m → Sound m′
-  pub moved : (c : CallOf r) (m m′ : M) (a : r .Answer) → Did c m m′ a → Sound m → means m′ ≡ become r j (means m) c
-
+-- Memory that means a state and follows the rules.
 module _ (r : Rules) (j : ℕ) {M : Type 0} (Sound : M → Type 0) (means : M → State (r .Table)) (Did : CallOf r → M → M → r .Answer → Type 0) (h : Meant r j Sound means Did) where
   -- from any sound memory: the answers are those of the state that it means
   pub settled : {m m′ : M} {cs : List (CallOf r)} {vs : List (r .Answer)} → Sound m → Run r Did m cs vs m′ → vs ≡ outcomes r j (means m) cs

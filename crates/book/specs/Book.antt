@@ -40,8 +40,8 @@ unfoldable pub from : (r : Rules) → r .Table → List (r .Message) → r .Tabl
 from r t [] = t
 from r t (x ∷ xs) = from r (next r t (r .judge t x)) xs
 
-abbrev pub tableOf : (r : Rules) → List (r .Message) → r .Table
-tableOf r xs = from r (r .start) xs
+abbrev pub tableAfter : (r : Rules) → List (r .Message) → r .Table
+tableAfter r xs = from r (r .start) xs
 
 -- "It holds the standing messages in order, at first none, and a number, at first 0."
 pub record Book (r : Rules) : Type 0 where
@@ -70,21 +70,21 @@ abbrev pub backSays : (r : Rules) → ℕ → r .Answer
 backSays r zero = r .none
 backSays r (suc n) = r .taken
 
-abbrev pub stepped : (r : Rules) → Book r → ℕ → Book r
-stepped r b zero = b
-stepped r b (suc n) = record { standing = withoutLast (b .standing); number = n }
+abbrev pub steppedBack : (r : Rules) → Book r → ℕ → Book r
+steppedBack r b zero = b
+steppedBack r b (suc n) = record { standing = withoutLast (b .standing); number = n }
 
 -- "any question ..: answered or refused from that table; steps on offer are the number." "Refusals and questions change nothing".
 abbrev pub says : (r : Rules) → Book r → CallOf r → r .Answer
-says r b (message x) = told r (r .judge (tableOf r (b .standing)) x)
-says r b (question q) = r .reply (tableOf r (b .standing)) q
+says r b (message x) = told r (r .judge (tableAfter r (b .standing)) x)
+says r b (question q) = r .reply (tableAfter r (b .standing)) q
 says r b stepBack = backSays r (b .number)
 says r b steps = r .offer (b .number)
 
 abbrev pub after : (r : Rules) → ℕ → Book r → CallOf r → Book r
-after r j b (message x) = noted r j b x (r .judge (tableOf r (b .standing)) x)
+after r j b (message x) = noted r j b x (r .judge (tableAfter r (b .standing)) x)
 after r j b (question q) = b
-after r j b stepBack = stepped r b (b .number)
+after r j b stepBack = steppedBack r b (b .number)
 after r j b steps = b
 
 -- the book's answers to a list of calls, with at most j steps

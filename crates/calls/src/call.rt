@@ -6,7 +6,7 @@ use super::say;
 use lines::flag::FlagRead;
 use lines::number::NumberRead;
 use rules::LaneKind;
-use topic::Place;
+use text::Place;
 
 // `count`, `steps`, `last`, `back`
 fn one(mem: &mut [u8], verb: &[u8], out: &mut [u8]) -> usize {

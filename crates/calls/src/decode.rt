@@ -1,7 +1,7 @@
 // Words of a line, decoded.
 use lines::hex::Decoded;
 use rules::LaneKind;
-use topic::Place;
+use text::Place;
 
 pub enum Spelt {
     Nothing,
@@ -28,7 +28,7 @@ pub(crate) fn word(line: &[u8], k: usize, space: &mut [u8], from: usize) -> Spel
 }
 
 pub(crate) fn bytes(space: &[u8], p: Place) -> &[u8] {
-    fields::slice(space, p.start, p.end)
+    text::slice(space, p.start, p.end)
 }
 
 pub enum KindRead {

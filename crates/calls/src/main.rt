@@ -41,7 +41,7 @@ fn answer_all(mem: &mut [u8], input: &[u8], space: &mut [u8]) {
         let Part::Found { start, end, next } = text::next_part(input, at, b'\n') else {
             return;
         };
-        answer_line(mem, fields::slice(input, start, end), space);
+        answer_line(mem, text::slice(input, start, end), space);
         at = next;
     }
 }
@@ -59,7 +59,7 @@ fn before(input: &[u8], space: &mut [u8]) -> usize {
         let Part::Found { start, end, next } = text::next_part(input, at, b'\n') else {
             return at;
         };
-        let line = fields::slice(input, start, end);
+        let line = text::slice(input, start, end);
         if opening::is_one(line, space) {
             return at;
         }
@@ -77,7 +77,7 @@ fn open(mem: &mut [u8], domain: &[u8], d: usize, j: usize) {
 
 // Opens the table, and answers the lines after the opening: a second one has no answer.
 fn opened(mem: &mut [u8], input: &[u8], space: &mut [u8], domain: usize, d: usize, j: usize) {
-    open(mem, fields::slice(space, 0, domain), d, j);
+    open(mem, text::slice(space, 0, domain), d, j);
     answer_all(mem, input, space);
 }
 
@@ -102,17 +102,15 @@ fn after(input: &[u8], space: &mut [u8]) {
     let Part::Found { start, end, next } = text::next_part(input, 0, b'\n') else {
         return;
     };
-    let Opening::Asks { domain, d, j, size } = opening::read(
-        fields::slice(input, start, end),
-        space,
-    ) else {
+    let Opening::Asks { domain, d, j, size } = opening::read(text::slice(input, start, end), space)
+    else {
         return;
     };
     let mut mem = memory();
     lend(
         &mut mem,
         size,
-        fields::slice(input, next, input.len()),
+        text::slice(input, next, input.len()),
         space,
         domain,
         d,
@@ -123,13 +121,13 @@ fn after(input: &[u8], space: &mut [u8]) {
 fn answer(input: &[u8]) {
     let mut space = word_space();
     let at = before(input, &mut space);
-    after(fields::slice(input, at, input.len()), &mut space);
+    after(text::slice(input, at, input.len()), &mut space);
 }
 
 fn main() {
     let mut input = input_space();
     match lines::read_input(&mut input) {
-        Input::Bytes(n) => answer(fields::slice(&input, 0, n)),
+        Input::Bytes(n) => answer(text::slice(&input, 0, n)),
         Input::TooLong => {
             io::write_all(libc::STDOUT_FILENO, b"too long\n");
         }

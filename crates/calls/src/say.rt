@@ -11,7 +11,7 @@ use questions::Version;
 use rules::DeviceState;
 use table::Offer;
 use table::Outcome;
-use topic::Place;
+use text::Place;
 
 // A line of another shape.
 pub(crate) fn unknown(out: &mut [u8]) -> usize {

@@ -6,10 +6,10 @@ use mathlib.Core.Bool.{Bool, true, false, false≢true}
 use lib.ListN.{length, getD, drop}
 use Rattle.answer.specs.Answer.{Answer, refused, gives}
 use Rattle.book.specs.Book as book
-use Rattle.book.specs.Book.{Call, State, fresh, moved, become, refuses, takes, Rules, message, stepBack, from, tableOf, blank, told, noted, withoutLast, after, answers, done, call}
+use Rattle.book.specs.Book.{Call, State, fresh, moved, become, refuses, takes, Rules, message, stepBack, question, next, from, tableAfter, blank, told, noted, withoutLast, after, answers, done, call}
 use Rattle.rules.specs.Table.{Table, noDevices}
 use Rattle.rules.specs.Messages as messages
-use Rattle.rules.specs.Questions.{Question, Value, taken}
+use Rattle.rules.specs.Questions.{Question, Value, taken, askCount, reply}
 use Rattle.rules.specs.Rules.{rules, outcome}
 use Rattle.memory.specs.Layout.{size, imageAt}
 use Rattle.memory.specs.State.{state}
@@ -19,10 +19,12 @@ use Rattle.lookup.proofs.Demand.{reversible}
 use Rattle.table.specs.declared.Outcome.{Outcome}
 use Rattle.table.specs.declared.Outcome.the-variants.{Taken, Refused}
 use Rattle.table.specs.Outcome.{said}
+use Rattle.questions.specs.Meaning.{saysNumber}
+use Rattle.questions.specs.declared.Number.the-variants as number
 use Rattle.client.specs.Sent.{SentTwice}
 
 -- the book is blank again
-module _ (r : Rules) (x : r .Message) where
+module _ (r : Rules) (x : r .Message) (q : r .Question) where
   back : (o : book.Outcome (r .Table) (r .Answer)) → after r 3 (noted r 3 (blank r) x o) stepBack ≡ blank r
   unfolding withoutLast
   back (refuses a) = refl
@@ -33,23 +35,38 @@ module _ (r : Rules) (x : r .Message) where
   undo (refuses a) = refl
   undo (takes t) = refl
 
-  pub first-said : (z : r .Answer) → getD (answers r 3 (blank r) (message x ∷ stepBack ∷ message x ∷ [])) 0 z ≡ told r (r .judge (r .start) x)
+  pub first-said : (z : r .Answer) → getD (answers r 3 (blank r) (message x ∷ stepBack ∷ message x ∷ question q ∷ [])) 0 z ≡ told r (r .judge (r .start) x)
   unfolding answers from
   first-said z = refl
 
-  pub again-said : (z : r .Answer) → getD (answers r 3 (blank r) (message x ∷ stepBack ∷ message x ∷ [])) 2 z ≡ told r (r .judge (r .start) x)
+  pub again-said : (z : r .Answer) → getD (answers r 3 (blank r) (message x ∷ stepBack ∷ message x ∷ question q ∷ [])) 2 z ≡ told r (r .judge (r .start) x)
   unfolding answers from
-  again-said z = ap (λ b. told r (r .judge (tableOf r (b .standing)) x)) (back (r .judge (r .start) x))
+  again-said z = ap (λ b. told r (r .judge (tableAfter r (b .standing)) x)) (back (r .judge (r .start) x))
 
-module _ {m₀ m₁ m₂ m₃ m₄ domain : List ℕ} {x : messages.Message} {a first undone again : Answer Value} (o : Opened m₀ domain 4 3 m₁ a) (t : isTaken a ≡ true) (p : Did (message x) m₁ m₂ first) (q : Did stepBack m₂ m₃ undone) (s : Did (message x) m₃ m₄ again) where
-  all : first ∷ undone ∷ again ∷ [] ≡ answers (rules domain 4) 3 (blank (rules domain 4)) (message x ∷ stepBack ∷ message x ∷ [])
-  all = reversible o t (call p (call q (call s done)))
+  -- the table of a book with that message alone
+  noted-table : (o : book.Outcome (r .Table) (r .Answer)) → o ≡ r .judge (r .start) x → tableAfter r (noted r 3 (blank r) x o .standing) ≡ next r (r .start) (r .judge (r .start) x)
+  unfolding from
+  noted-table (refuses a) e = ap (next r (r .start)) e
+  noted-table (takes t) e = refl
+
+  pub count-said : (z : r .Answer) → getD (answers r 3 (blank r) (message x ∷ stepBack ∷ message x ∷ question q ∷ [])) 3 z ≡ r .reply (next r (r .start) (r .judge (r .start) x)) q
+  unfolding answers from
+  count-said z =
+      ap (λ b. r .reply (tableAfter r (after r 3 b (message x) .standing)) q) (back (r .judge (r .start) x))
+      ∙ ap (λ t. r .reply t q) (noted-table (r .judge (r .start) x) refl)
+
+module _ {m₀ m₁ m₂ m₃ m₄ domain : List ℕ} {x : messages.Message} {a first undone again count : Answer Value} (o : Opened m₀ domain 4 3 m₁ a) (t : isTaken a ≡ true) (p : Did (message x) m₁ m₂ first) (q : Did stepBack m₂ m₃ undone) (s : Did (message x) m₃ m₄ again) (k : Did (question askCount) m₄ m₄ count) where
+  all : first ∷ undone ∷ again ∷ count ∷ [] ≡ answers (rules domain 4) 3 (blank (rules domain 4)) (message x ∷ stepBack ∷ message x ∷ question askCount ∷ [])
+  all = reversible o t (call p (call q (call s (call k done))))
 
   first-is : first ≡ told (rules domain 4) (outcome (messages.message domain 4 noDevices x))
-  first-is = ap (λ (l : List (Answer Value)). getD l 0 (gives taken)) all ∙ first-said (rules domain 4) x (gives taken)
+  first-is = ap (λ (l : List (Answer Value)). getD l 0 (gives taken)) all ∙ first-said (rules domain 4) x askCount (gives taken)
 
   again-is : again ≡ first
-  again-is = ap (λ (l : List (Answer Value)). getD l 2 (gives taken)) all ∙ again-said (rules domain 4) x (gives taken) ∙ sym first-is
+  again-is = ap (λ (l : List (Answer Value)). getD l 2 (gives taken)) all ∙ again-said (rules domain 4) x askCount (gives taken) ∙ sym first-is
+
+  count-is : count ≡ reply (next (rules domain 4) noDevices (outcome (messages.message domain 4 noDevices x))) askCount
+  count-is = ap (λ (l : List (Answer Value)). getD l 3 (gives taken)) all ∙ count-said (rules domain 4) x askCount (gives taken)
 
   -- the opening of each memory, and what it means
   o₁ : openingOf m₁ ≡ record { domain = domain; devices = 4; depth = 3 }
@@ -79,7 +96,7 @@ module _ {m₀ m₁ m₂ m₃ m₄ domain : List ℕ} {x : messages.Message} {a 
   meant : means m₄ ≡ become (rules domain 4) 3 (fresh (rules domain 4)) (message x)
   meant =
       let a₂ : means m₂ ≡ become (rules domain 4) 3 (fresh (rules domain 4)) (message x) = p .moved s₁ ∙ turned (message x) m₁ o₁ _ (o .fresh t) in
-      let a₃ : means m₃ ≡ fresh (rules domain 4) = q .moved s₂ ∙ turned stepBack m₂ o₂ _ a₂ ∙ undo (rules domain 4) x (outcome (messages.message domain 4 noDevices x)) in
+      let a₃ : means m₃ ≡ fresh (rules domain 4) = q .moved s₂ ∙ turned stepBack m₂ o₂ _ a₂ ∙ undo (rules domain 4) x askCount (outcome (messages.message domain 4 noDevices x)) in
       s .moved s₃ ∙ turned (message x) m₃ o₃ _ a₃
 
   past : (m m′ : List ℕ) → openingOf m ≡ record { domain = domain; devices = 4; depth = 3 } → drop (size m) m′ ≡ drop (size m) m → drop (imageAt 4 3) m′ ≡ drop (imageAt 4 3) m
@@ -101,16 +118,16 @@ opened false = refl
 taken-open : {m₀ m₁ domain : List ℕ} {a : Answer Value} → Opened m₀ domain 4 3 m₁ a → isTaken a ≡ isOpenable domain 4 3 (length m₀)
 taken-open {m₀} {m₁} {domain} o = ap isTaken (o .answered) ∙ opened (isOpenable domain 4 3 (length m₀))
 
-pub refused-right : (m₀ m₁ domain : List ℕ) (x : messages.Message) (r : Outcome) (n : ℕ) → Opened m₀ domain 4 3 m₁ (said r) → r ≡ Refused n → SentTwice m₀ domain x m₁ (said r) (said r)
-unfolding isTaken openAnswer
+pub refused-right : (m₀ m₁ domain : List ℕ) (x : messages.Message) (r : Outcome) (n : ℕ) → Opened m₀ domain 4 3 m₁ (said r) → r ≡ Refused n → SentTwice m₀ domain x m₁ (said r) (said r) (saysNumber (number.Refused 5))
+unfolding isTaken openAnswer saysNumber
 refused-right m₀ m₁ domain x r n o e =
     let t : isTaken (said r) ≡ false = ap (λ (y : Outcome). isTaken (said y)) e in
     let f : isOpenable domain 4 3 (length m₀) ≡ false = sym (taken-open o) ∙ t in
     let s : said r ≡ refused 5 = o .answered ∙ ap openAnswer f in
-    record { unopened = λ h. (s, (s, o .refused t)); judged = λ h. absurd (false≢true (sym f ∙ h)); alike = λ h. refl; sound = λ h. absurd (false≢true (sym f ∙ h)); means = λ h. absurd (false≢true (sym f ∙ h)); kept = o .kept; beyond = o .beyond }
+    record { unopened = λ h. (s, s, refl, o .refused t); judged = λ h. absurd (false≢true (sym f ∙ h)); alike = λ h. refl; counted = λ h. absurd (false≢true (sym f ∙ h)); sound = λ h. absurd (false≢true (sym f ∙ h)); means = λ h. absurd (false≢true (sym f ∙ h)); kept = o .kept; beyond = o .beyond }
 
-pub sent-right : (m₀ m₁ m₂ m₃ m₄ domain : List ℕ) (x : messages.Message) (r : Outcome) (first undone again : Answer Value) → Opened m₀ domain 4 3 m₁ (said r) → r ≡ Taken → Did (message x) m₁ m₂ first → Did stepBack m₂ m₃ undone → Did (message x) m₃ m₄ again → SentTwice m₀ domain x m₄ first again
+pub sent-right : (m₀ m₁ m₂ m₃ m₄ domain : List ℕ) (x : messages.Message) (r : Outcome) (first undone again count : Answer Value) → Opened m₀ domain 4 3 m₁ (said r) → r ≡ Taken → Did (message x) m₁ m₂ first → Did stepBack m₂ m₃ undone → Did (message x) m₃ m₄ again → Did (question askCount) m₄ m₄ count → SentTwice m₀ domain x m₄ first again count
 unfolding isTaken saysTaken
-sent-right m₀ m₁ m₂ m₃ m₄ domain x r first undone again o e p q s =
+sent-right m₀ m₁ m₂ m₃ m₄ domain x r first undone again count o e p q s k =
     let t : isTaken (said r) ≡ true = ap (λ (y : Outcome). isTaken (said y)) e in
-    record { unopened = λ h. absurd (false≢true (sym h ∙ sym (taken-open o) ∙ t)); judged = λ h. first-is o t p q s; alike = λ h. again-is o t p q s; sound = λ h. sound o t p q s; means = λ h. meant o t p q s; kept = kept o t p q s; beyond = beyond o t p q s }
+    record { unopened = λ h. absurd (false≢true (sym h ∙ sym (taken-open o) ∙ t)); judged = λ h. first-is o t p q s k; alike = λ h. again-is o t p q s k; counted = λ h. count-is o t p q s k; sound = λ h. sound o t p q s k; means = λ h. meant o t p q s k; kept = kept o t p q s k; beyond = beyond o t p q s k }

@@ -17,7 +17,7 @@ use Rattle.text.specs.Utf8.{isUtf8}
 use Rattle.text.proofs.Bytes.{both, and-both, eqBytes-false}
 use Rattle.json.specs.Bytes.{ws}
 use Rattle.json.specs.Value.{documentOf}
-use Rattle.fields.specs.Values.{textAt, isText, isIdText, ofKind}
+use Rattle.fields.specs.Values.{stringBytes, isStringAt, isIdText, ofKind}
 use Rattle.fields.specs.Fields.{holds, field, optional, isPresent, textIn}
 use Rattle.fields.specs.declared.Field.{Field}
 use Rattle.fields.specs.declared.Field.the-variants.{Absent, One, Twice}
@@ -30,7 +30,7 @@ use Rattle.properties.proofs.Theorems.{in-order}
 use Rattle.nodes.specs.Nodes.{each, nodeMember}
 use Rattle.nodes.proofs.Theorems.{valid, apart}
 use Rattle.description.specs.Names.{nodes, root, parent}
-use Rattle.description.specs.Description.{otherRules, fieldRules, isOther, familyRules, declared, isEnd, validRules, rules, Described, describedAt, describe}
+use Rattle.description.specs.Description.{otherRules, fieldRules, isOther, familyRules, declared, isEnd, validRules, rules, Described, describedIn, describe}
 use Rattle.description.specs.Declares.{Other, Declares}
 use Rattle.description.proofs.Whole.{refuses, takes}
 
@@ -41,8 +41,8 @@ module _ (own s : List ℕ) where
   unfolding optional isOther textIn ofKind isIdText
   other-id Absent id o n e = let z : _≡_ {A = ℕ} 0 1 = cc in absurd (omega arith)
   other-id (One k) id o n e =
-      let t : textAt s k ≡ id = cc in
-      rw (sym t) (record { is = and-both (isText s k) (isId (textAt s k)) o .1; other = eqBytes-false (textAt s k) own (not-true _ n) })
+      let t : stringBytes s k ≡ id = cc in
+      rw (sym t) (record { is = and-both (isStringAt s k) (isId (stringBytes s k)) o .1; other = eqBytes-false (stringBytes s k) own (not-true _ n) })
   other-id Twice id o n e = let z : _≡_ {A = ℕ} 0 1 = cc in absurd (omega arith)
 
   no-parent : (f g : Field) → optional Id s f ≡ true → (not (isPresent g) || isPresent f) ≡ true → textIn s f ≡ none → textIn s g ≡ none
@@ -104,8 +104,8 @@ module _ (own s : List ℕ) (at : ℕ) (h : holds (validRules own s at) ≡ true
   unfolding declared
   in-place = in-order (declared s at) (apart s (field s at nodes) its-nodes)
 
-  pub declares-at : leb (length (declared s at)) 24 ≡ true → Declares own (describedAt s at)
-  unfolding describedAt
+  pub declares-at : leb (length (declared s at)) 24 ≡ true → Declares own (describedIn s at)
+  unfolding describedIn
   declares-at n =
       let k = leb-true (length (declared s at)) 24 n in
       record {
@@ -122,7 +122,7 @@ module _ (own s : List ℕ) {x : Described} (e : describe own s ≡ gives x) whe
   pub kept-rules : holds (rules own s) ≡ true
   kept-rules = both (holds (rules own s)) (λ h. h) (λ h. let y = refuses own s h in let z : _≡_ {A = ℕ} 0 1 = cc in absurd (omega arith))
 
-  pub given-is : describedAt s (ws s 0) ≡ x
+  pub given-is : describedIn s (ws s 0) ≡ x
   given-is = let y = takes own s kept-rules in cc
 
   valid-rules : holds (validRules own s (ws s 0)) ≡ true
@@ -136,5 +136,5 @@ module _ (own s : List ℕ) {x : Described} (e : describe own s ≡ gives x) whe
       rw (sym given-is) (declares-at own s (ws s 0) valid-rules n)
 
   pub arranges : Arranged (declared s (ws s 0)) (x .properties)
-  unfolding describedAt
+  unfolding describedIn
   arranges = rw (sym (ap (λ (y : Described). y .properties) given-is)) (in-place own s (ws s 0) valid-rules)

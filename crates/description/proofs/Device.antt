@@ -11,13 +11,13 @@ use lib.Seq.{drop-cons, take-all}
 use lib.Dec.{eqb, leb}
 use lib.IntN.{ℤ, pos}
 use borrow.Author.Tests.{ne-eqb, eq-eqb, le-leb, lt-leb}
-use Rattle.text.specs.Bytes.{eqBytes, part}
+use Rattle.text.specs.Bytes.{eqBytes, slice}
 use Rattle.numbers.specs.Digits.{isDigit}
 use Rattle.numbers.specs.Integer.{integer, integerRead}
 use Rattle.numbers.specs.Whole.{stands}
 use Rattle.numbers.specs.declared.integers.IntegerRead.{IntegerRead}
 use Rattle.numbers.specs.declared.integers.IntegerRead.the-variants.{Value, Nothing}
-use Rattle.fields.specs.Values.{bytesAt, textAt, isText}
+use Rattle.fields.specs.Values.{valueBytes, stringBytes, isStringAt}
 use Rattle.fields.specs.Fields.{holds, field, isPresent}
 use Rattle.fields.specs.declared.Field.{Field}
 use Rattle.fields.specs.declared.Field.the-variants.{Absent, One, Twice}
@@ -76,15 +76,15 @@ module _ (t : List ℕ) where
 
 -- ---- homie
 
-module _ (t : List ℕ) {u : List ℕ} {b : Bool} (x : u ≡ part t 0 2) (p : b ≡ eqBytes u (ascii "5.")) where
+module _ (t : List ℕ) {u : List ℕ} {b : Bool} (x : u ≡ slice t 0 2) (p : b ≡ eqBytes u (ascii "5.")) where
   pub homie-other : b ≡ false → false ≡ isHomie t
   unfolding isHomie
   homie-other e = rw (sym (p ∙ ap (λ (v : List ℕ). eqBytes v (ascii "5.")) x) ∙ e)
 
-  pub homie-minor : {v : List ℕ} {r : Bool} → b ≡ true → v ≡ part t 2 (length t) → r ≡ holds (minorRules v) → r ≡ isHomie t
+  pub homie-minor : {v : List ℕ} {r : Bool} → b ≡ true → v ≡ slice t 2 (length t) → r ≡ holds (minorRules v) → r ≡ isHomie t
   unfolding isHomie
   homie-minor {v} e y z =
-      let w : part t 2 (length t) ≡ drop 2 t = take-all (length t - 2) (drop 2 t) (rw (length-drop 2 t) (omega arith)) in
+      let w : slice t 2 (length t) ≡ drop 2 t = take-all (length t - 2) (drop 2 t) (rw (length-drop 2 t) (omega arith)) in
       z ∙ ap (λ (l : List ℕ). holds (minorRules l)) (y ∙ w) ∙ rw (sym (p ∙ ap (λ (l : List ℕ). eqBytes l (ascii "5.")) x) ∙ e)
 
 module _ (s : List ℕ) {f : Field} where
@@ -96,12 +96,12 @@ module _ (s : List ℕ) {f : Field} where
   unfolding homieIn
   homie-twice q = rw q
 
-  module _ {k : ℕ} (q : f ≡ One k) {b : Bool} (p : b ≡ isText s k) where
+  module _ {k : ℕ} (q : f ≡ One k) {b : Bool} (p : b ≡ isStringAt s k) where
     pub homie-no-text : b ≡ false → false ≡ homieIn s f
     unfolding homieIn
     homie-no-text e = rw (q, sym p ∙ e)
 
-    pub homie-text : {t : List ℕ} {r : Bool} → b ≡ true → t ≡ textAt s k → r ≡ isHomie t → r ≡ homieIn s f
+    pub homie-text : {t : List ℕ} {r : Bool} → b ≡ true → t ≡ stringBytes s k → r ≡ isHomie t → r ≡ homieIn s f
     unfolding homieIn
     homie-text e y z = z ∙ ap isHomie y ∙ sym (rw (q, sym p ∙ e))
 
@@ -116,7 +116,7 @@ module _ (s : List ℕ) {f : Field} where
   unfolding versionIn
   version-twice q = rw q
 
-  pub version-one : {k : ℕ} {t : List ℕ} {o : Option ℤ} → f ≡ One k → t ≡ bytesAt s k → o ≡ integer t → o ≡ versionIn s f
+  pub version-one : {k : ℕ} {t : List ℕ} {o : Option ℤ} → f ≡ One k → t ≡ valueBytes s k → o ≡ integer t → o ≡ versionIn s f
   unfolding versionIn
   version-one q y z = z ∙ ap integer y ∙ sym (rw q)
 
@@ -152,7 +152,7 @@ module _ (own s : List ℕ) {f : Field} where
   unfolding isOther
   other-twice q = rw q
 
-  pub other-one : {k : ℕ} {t : List ℕ} {b : Bool} → f ≡ One k → t ≡ textAt s k → b ≡ eqBytes t own → not b ≡ isOther own s f
+  pub other-one : {k : ℕ} {t : List ℕ} {b : Bool} → f ≡ One k → t ≡ stringBytes s k → b ≡ eqBytes t own → not b ≡ isOther own s f
   unfolding isOther
   other-one q y z = ap not (z ∙ ap (λ (u : List ℕ). eqBytes u own) y) ∙ sym (rw q)
 

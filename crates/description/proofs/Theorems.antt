@@ -8,7 +8,7 @@ use Rattle.json.specs.Bytes.{ws}
 use Rattle.fields.specs.Values.{isPlain}
 use Rattle.properties.specs.Valid.{Arranged}
 use Rattle.description.specs.declared.Description.{Description}
-use Rattle.description.specs.Description.{isHomie, declared, Described, describedAt, describe}
+use Rattle.description.specs.Description.{isHomie, declared, Described, describedIn, describe}
 use Rattle.description.specs.Meaning.{meaning, Shows}
 use Rattle.description.specs.Declares.{Declares}
 use Rattle.description.proofs.Whole as whole
@@ -17,7 +17,7 @@ use Rattle.description.proofs.Plain as plain
 
 -- ---- the answer of `describe`: `taken` tells whether the description is valid
 
-pub taken : (own s : List ℕ) (d : Description) → meaning s d ≡ describe own s → d .taken ≡ true → describe own s ≡ gives (describedAt s (ws s 0))
+pub taken : (own s : List ℕ) (d : Description) → meaning s d ≡ describe own s → d .taken ≡ true → describe own s ≡ gives (describedIn s (ws s 0))
 taken own s d p e = whole.taken-gives own s d p e
 
 pub not-taken : (own s : List ℕ) (d : Description) → meaning s d ≡ describe own s → d .taken ≡ false → describe own s ≡ refused 15

@@ -33,7 +33,7 @@ use Rattle.description.specs.Names.{homie, version, nodes, name, type, c
 use Rattle.description.specs.declared.Description.{Description}
 use Rattle.description.specs.declared.Verdict.{Verdict}
 use Rattle.description.specs.declared.Verdict.the-variants.{Taken, Refused}
-use Rattle.description.specs.Description.{versionIn, numberOf, otherRules, fieldRules, familyRules, declared, isEnd, validRules, rules, Described, describedAt, describe}
+use Rattle.description.specs.Description.{versionIn, numberOf, otherRules, fieldRules, familyRules, declared, isEnd, validRules, rules, Described, describedIn, describe}
 use Rattle.description.specs.Parts.{otherRulesIn, fieldRulesIn, familyRulesIn, deviceRulesIn}
 use Rattle.description.specs.Meaning.{shown, listed, meaning, Shows, verdict}
 
@@ -123,7 +123,7 @@ module _ (own s : List ℕ) where
   unfolding describe require
   refuses e = sym (rw (e, require))
 
-  pub takes : holds (rules own s) ≡ true → gives (describedAt s (ws s 0)) ≡ describe own s
+  pub takes : holds (rules own s) ≡ true → gives (describedIn s (ws s 0)) ≡ describe own s
   unfolding describe require
   takes e = sym (rw (e, require))
 
@@ -156,8 +156,8 @@ module _ (own s : List ℕ) {at : ℕ} (a : at ≡ ws s 0) {v : Bool} (valid : v
         (λ c x. let y = view-none s l p o in let z : _≡_ {A = ℕ} 0 1 = cc in absurd (omega arith))
 
     same : (d : Description) → d .root ≡ field s at root → d .parent ≡ field s at parent → stands (2 ^ 63) (d .version) ≡ numberOf (versionIn s (field s at version))
-        → shown s d (insertAll (declared s (ws s 0)) []) ≡ describedAt s (ws s 0)
-    unfolding shown describedAt
+        → shown s d (insertAll (declared s (ws s 0)) []) ≡ describedIn s (ws s 0)
+    unfolding shown describedIn
     same d r q₂ n = rw (r, q₂, n, a)
 
     pub is-described : (d : Description) {o : Bool} → o ≡ (l .over || ltb 24 (l .n)) → o ≡ false → d .taken ≡ true → d .properties ≡ l → d .root ≡ field s at root → d .parent ≡ field s at parent
@@ -180,7 +180,7 @@ module _ (own s : List ℕ) (d : Description) (p : meaning s d ≡ describe own 
       (λ h. let x = not-taken s d e in let y = takes own s h in let z : _≡_ {A = ℕ} 0 1 = cc in absurd (omega arith))
       (λ h. h)
 
-  pub taken-gives : d .taken ≡ true → describe own s ≡ gives (describedAt s (ws s 0))
+  pub taken-gives : d .taken ≡ true → describe own s ≡ gives (describedIn s (ws s 0))
   taken-gives e = sym (takes own s (holds-taken e))
 
   pub verdict-yes : d .taken ≡ true → verdict Taken ≡ require (holds (rules own s)) 15 (gives tt)

@@ -17,7 +17,7 @@ use Rattle.json.specs.Bytes.{ws}
 use Rattle.json.specs.Value.{documentOf}
 use Rattle.json.specs.declared.Scan.{Scan}
 use Rattle.json.specs.declared.Scan.the-variants.{End, Bad}
-use Rattle.fields.specs.Values.{bytesAt, textAt, isText, isObject}
+use Rattle.fields.specs.Values.{valueBytes, stringBytes, isStringAt, isObject}
 use Rattle.fields.specs.Fields.{holds, field, optional, isPresent, textIn, membersIn, plainNames}
 use Rattle.fields.specs.declared.Field.{Field}
 use Rattle.fields.specs.declared.Field.the-variants.{Absent, One, Twice}
@@ -46,13 +46,13 @@ isHomie t = eqBytes (take 2 t) (ascii "5.") && holds (minorRules (drop 2 t))
 -- "`homie` (required ..)"
 unfoldable pub homieIn : List ℕ → Field → Bool
 homieIn s Absent = false
-homieIn s (One k) = isText s k && isHomie (textAt s k)
+homieIn s (One k) = isStringAt s k && isHomie (stringBytes s k)
 homieIn s Twice = false
 
 -- "`version` (required, number without fraction or exponent, signed 64-bit)": the number that a field holds
 unfoldable pub versionIn : List ℕ → Field → Option ℤ
 versionIn s Absent = none
-versionIn s (One k) = integer (bytesAt s k)
+versionIn s (One k) = integer (valueBytes s k)
 versionIn s Twice = none
 
 unfoldable pub isNumber : Option ℤ → Bool
@@ -82,7 +82,7 @@ fieldRules s at =
 -- "neither is the device's own ID"
 unfoldable pub isOther : List ℕ → List ℕ → Field → Bool
 isOther own s Absent = true
-isOther own s (One k) = not (eqBytes (textAt s k) own)
+isOther own s (One k) = not (eqBytes (stringBytes s k) own)
 isOther own s Twice = true
 
 -- "`parent` needs `root`; neither is the device's own ID."
@@ -125,8 +125,8 @@ pub record Described : Type 0 where
   pub version : ℤ
   pub properties : List Property
 
-unfoldable pub describedAt : List ℕ → ℕ → Described
-describedAt s at = record {
+unfoldable pub describedIn : List ℕ → ℕ → Described
+describedIn s at = record {
   root = textIn s (field s at root);
   parent = textIn s (field s at parent);
   version = numberOf (versionIn s (field s at version));
@@ -135,4 +135,4 @@ describedAt s at = record {
 
 -- refusal 15, "description not valid", unless no rule is broken
 unfoldable pub describe : List ℕ → List ℕ → Answer Described
-describe own s = require (holds (rules own s)) 15 (gives (describedAt s (ws s 0)))
+describe own s = require (holds (rules own s)) 15 (gives (describedIn s (ws s 0)))

@@ -77,10 +77,10 @@ fn is_minor(t: &[u8]) -> bool
 fn is_homie(t: &[u8]) -> bool
     ensures { λ r. ⌜ r ≡ isHomie (now (t .entry)) ⌝ }
 {
-    if !text::same(fields::slice(t, 0, 2), b"5.") {
+    if !text::same(text::slice(t, 0, 2), b"5.") {
         return false;
     }
-    is_minor(fields::slice(t, 2, t.len()))
+    is_minor(text::slice(t, 2, t.len()))
 }
 
 fn has_homie(s: &[u8], f: Field) -> bool

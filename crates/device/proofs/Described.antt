@@ -8,16 +8,17 @@ use mathlib.Core.Bool.{true, false}
 use mathlib.Core.Option.{none, some}
 use lib.ListN.{length, getD}
 use Rattle.numbers.specs.Whole.{stands}
-use Rattle.trace.specs.Bytes.{u64}
+use Rattle.little_endian.specs.Bytes.{u64}
 use Rattle.text.proofs.Bytes.{both}
-use Rattle.topic.specs.declared.Place.{Place}
+use Rattle.text.specs.declared.Place.{Place}
 use Rattle.memory.specs.Bytes.{tab}
 use Rattle.memory.proofs.Lists.{length-tab}
 use Rattle.rules.specs.Table as table
 use Rattle.device.specs.declared.Text.{Text}
 use Rattle.device.specs.declared.Text.the-variants as text
 use Rattle.device.specs.declared.Version.the-variants as version
-use Rattle.device.specs.Layout.{idMost, describedAt, rootAt, parentAt, versionAt, countAt, propertiesMost, recordAt}
+use Rattle.text.specs.Ids.{idMost}
+use Rattle.device.specs.Layout.{describedAt, rootAt, parentAt, versionAt, countAt, propertiesMost, recordAt}
 use Rattle.device.specs.Decode.{isSet, textAt, optionalAt, recordOf, countIn, propertiesIn, descriptionIn, deviceOf}
 use Rattle.device.specs.Meaning.{TextIn, OptionalIn, textIn, versionIs}
 use Rattle.device.specs.Parts.{describedText}

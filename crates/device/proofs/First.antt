@@ -10,7 +10,8 @@ use lib.Seq.{drop-cons}
 use Rattle.text.specs.Bytes.{eqBytes}
 use Rattle.rules.specs.Table as table
 use Rattle.rules.specs.Find.{isNamed, firstAt}
-use Rattle.device.specs.Layout.{idMost, nodeAt, propertyAt, recordAt}
+use Rattle.text.specs.Ids.{idMost}
+use Rattle.device.specs.Layout.{nodeAt, propertyAt, recordAt}
 use Rattle.device.specs.Decode.{textAt, declaredAt, recordOf}
 use Rattle.device.proofs.Described.{all, nth}
 

@@ -5,16 +5,17 @@ use mathlib.Core.List.{List}
 use mathlib.Core.Bool.{true, false}
 use mathlib.Core.Option.{none, some}
 use lib.ListN.{length, getD}
-use Rattle.trace.specs.Bytes.{u64}
+use Rattle.little_endian.specs.Bytes.{u64}
 use Rattle.payload.specs.Datatypes.{datatypeAt}
 use Rattle.text.proofs.Bytes.{both}
-use Rattle.topic.specs.Meaning.{bytesAt, Within}
+use Rattle.text.specs.Places.{bytesAt, Within}
 use Rattle.rules.specs.Table as table
 use Rattle.rules.specs.declared.LaneKind.{LaneKind}
 use Rattle.rules.specs.declared.LaneKind.the-variants.{Value, Target, Asked}
 use Rattle.device.specs.declared.Lane.{Lane}
 use Rattle.device.specs.declared.Property.{Property}
-use Rattle.device.specs.Layout.{idMost, nodeAt, propertyAt, datatypeCodeAt, settableAt, retainedAt, formatAt, formatMost, lanesAt, laneSize, payloadAt, payloadMost}
+use Rattle.text.specs.Ids.{idMost}
+use Rattle.device.specs.Layout.{nodeAt, propertyAt, datatypeCodeAt, settableAt, retainedAt, formatAt, formatMost, lanesAt, laneSize, payloadAt, payloadMost}
 use Rattle.device.specs.Decode.{isSet, textAt, heldAt, declaredAt, recordOf}
 use Rattle.device.specs.Meaning.{TextIn, laneNumber, chosen, heldIn, declaredIn, propertyIn, PropertyIn}
 use Rattle.device.specs.Parts.{LaneAt, LanesAt}

@@ -1,5 +1,4 @@
 pub mod Texts
-pub mod Numbers
 pub mod Described
 pub mod Lanes
 pub mod First

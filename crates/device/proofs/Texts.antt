@@ -7,10 +7,10 @@ use mathlib.Core.Path.{_≡_, ap, _∙_}
 use mathlib.Core.List.{List, [], _∷_}
 use lib.ListN.{length, getD, take, drop, length-drop, drop-of-length-le}
 use lib.Seq.{take-nil}
-use Rattle.topic.specs.declared.Place.{Place}
-use Rattle.topic.specs.Meaning.{bytesAt, Within}
-use Rattle.memory.specs.Bytes.{part}
-use Rattle.memory.proofs.Flat.{part-part}
+use Rattle.text.specs.declared.Place.{Place}
+use Rattle.text.specs.Places.{bytesAt, Within}
+use Rattle.memory.specs.Bytes.{span}
+use Rattle.memory.proofs.Flat.{span-span}
 use Rattle.device.specs.Decode.{textAt}
 use Rattle.device.specs.Meaning.{TextIn, shifted}
 
@@ -33,15 +33,15 @@ clipped r a n = elim (decLt a (length r)) as (λ _. take (min (a + n) (length r)
 -- as `text_at` finds it: b is the length byte, n the length, s and e the two ends
 pub text-in : (r : List ℕ) (at most b n s e : ℕ) → b ≡ getD r at 0 → n ≡ min b most → s ≡ min (at + 1) (length r) → e ≡ min (at + 1 + n) (length r)
     → TextIn r (textAt r at most) (record { start = s; end = e })
-unfolding textAt part
+unfolding textAt span
 text-in r at most b n s e o p q u = record {
   says = rw (u, q, p, o) (clipped r (at + 1) (min (getD r at 0) most));
   within = record { ordered = omega arith; inside = omega arith };
 }
 
 -- a place of a room that is a part of memory
-pub text-in-memory : (m : List ℕ) (a n : ℕ) (p : Place) → a + n ≤ length m → Within n p → bytesAt (part m a n) p ≡ bytesAt m (shifted a p)
-unfolding part
+pub text-in-memory : (m : List ℕ) (a n : ℕ) (p : Place) → a + n ≤ length m → Within n p → bytesAt (span m a n) p ≡ bytesAt m (shifted a p)
+unfolding span
 text-in-memory m a n p h w =
     let e : p .end - p .start ≡ (a + p .end) - (a + p .start) = omega arith in
-    part-part m a n (p .start) (p .end - p .start) h (omega (arith, w)) ∙ ap (λ (k : ℕ). take k (drop (a + p .start) m)) e
+    span-span m a n (p .start) (p .end - p .start) h (omega (arith, w)) ∙ ap (λ (k : ℕ). take k (drop (a + p .start) m)) e

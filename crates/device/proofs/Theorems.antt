@@ -5,10 +5,10 @@ use mathlib.Core.List.{List, [], _∷_}
 use mathlib.Core.Option.{none}
 use lib.ListN.{length, getD}
 use Rattle.text.specs.Ascii.{ascii}
-use Rattle.trace.specs.Bytes.{le, num}
-use Rattle.topic.specs.Meaning.{bytesAt, Within}
-use Rattle.topic.specs.declared.Place.{Place}
-use Rattle.memory.specs.Bytes.{part}
+use Rattle.little_endian.specs.Bytes.{le, num}
+use Rattle.text.specs.Places.{bytesAt, Within}
+use Rattle.text.specs.declared.Place.{Place}
+use Rattle.memory.specs.Bytes.{span}
 use Rattle.rules.specs.Table.{Property, laneOf, propertiesOf}
 use Rattle.rules.specs.States.{stateAt}
 use Rattle.rules.specs.declared.DeviceState.the-variants.{Init}
@@ -34,14 +34,14 @@ pub lane-holds : (room : List ℕ) (kind : LaneKind) (p : shown.Property) → he
 lane-holds = lanes.lane-holds
 
 -- a byte string of a room that is a part of memory, shown in that memory
-pub text-in-memory : (m : List ℕ) (a n : ℕ) (p : Place) → a + n ≤ length m → Within n p → bytesAt (part m a n) p ≡ bytesAt m (shifted a p)
+pub text-in-memory : (m : List ℕ) (a n : ℕ) (p : Place) → a + n ≤ length m → Within n p → bytesAt (span m a n) p ≡ bytesAt m (shifted a p)
 text-in-memory = texts.text-in-memory
 
 -- a room of five bytes, and one of none
 pub lamp : deviceOf (4 ∷ ascii "lamp") ≡ record { id = ascii "lamp"; state = Init; time = 0; description = none }
-unfolding deviceOf textAt part stateAt descriptionIn isSet num le
+unfolding deviceOf textAt span stateAt descriptionIn isSet num le
 lamp = refl
 
 pub empty : deviceOf [] ≡ record { id = []; state = Init; time = 0; description = none }
-unfolding deviceOf textAt part stateAt descriptionIn isSet num le
+unfolding deviceOf textAt span stateAt descriptionIn isSet num le
 empty = refl

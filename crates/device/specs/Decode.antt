@@ -5,14 +5,15 @@ use mathlib.Core.Bool.{Bool, true, false, not}
 use mathlib.Core.Option.{Option, none, some}
 use lib.ListN.{getD}
 use lib.Dec.{eqb}
-use Rattle.trace.specs.Bytes.{u64}
+use Rattle.little_endian.specs.Bytes.{u64}
 use Rattle.numbers.specs.Whole.{stands}
-use Rattle.memory.specs.Bytes.{part, tab}
+use Rattle.memory.specs.Bytes.{span, tab}
 use Rattle.payload.specs.Datatypes.{datatypeAt}
 use Rattle.properties.specs.Property as declaration
 use Rattle.rules.specs.States.{stateAt}
 use Rattle.rules.specs.Table.{Held, Property, Description, Device}
-use Rattle.device.specs.Layout.{idAt, idMost, stateCodeAt, timeAt, describedAt, rootAt, parentAt, versionAt, countAt, propertiesMost, recordAt, nodeAt, propertyAt, datatypeCodeAt, settableAt, retainedAt, formatAt, formatMost, lanesAt, laneSize, payloadAt, payloadMost}
+use Rattle.text.specs.Ids.{idMost}
+use Rattle.device.specs.Layout.{idAt, stateCodeAt, timeAt, describedAt, rootAt, parentAt, versionAt, countAt, propertiesMost, recordAt, nodeAt, propertyAt, datatypeCodeAt, settableAt, retainedAt, formatAt, formatMost, lanesAt, laneSize, payloadAt, payloadMost}
 
 -- a byte that is not 0
 unfoldable pub isSet : List ℕ → ℕ → Bool
@@ -20,7 +21,7 @@ isSet r at = not (eqb (getD r at 0) 0)
 
 -- a byte string: a length byte, then the bytes
 unfoldable pub textAt : List ℕ → (at most : ℕ) → List ℕ
-textAt r at most = part r (at + 1) (min (getD r at 0) most)
+textAt r at most = span r (at + 1) (min (getD r at 0) most)
 
 -- a byte string that may be missing: then its length is 0
 unfoldable pub optionalAt : List ℕ → (at most : ℕ) → Option (List ℕ)

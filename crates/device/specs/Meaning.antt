@@ -7,8 +7,8 @@ use mathlib.Core.Option.{Option, none, some}
 use lib.ListN.{length, getD}
 use lib.IntN.{ℤ}
 use Rattle.numbers.specs.Whole.{stands}
-use Rattle.topic.specs.Meaning.{bytesAt, Within}
-use Rattle.topic.specs.declared.Place.{Place}
+use Rattle.text.specs.Places.{bytesAt, Within}
+use Rattle.text.specs.declared.Place.{Place}
 use Rattle.properties.specs.Property as declaration
 use Rattle.rules.specs.Table as table
 use Rattle.rules.specs.declared.LaneKind.{LaneKind}

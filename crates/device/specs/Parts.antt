@@ -5,11 +5,12 @@ use mathlib.Core.List.{List, [], _∷_}
 use mathlib.Core.Bool.{true, false, cond}
 use mathlib.Core.Option.{Option, none}
 use lib.ListN.{getD}
-use Rattle.trace.specs.Bytes.{u64}
+use Rattle.little_endian.specs.Bytes.{u64}
 use Rattle.rules.specs.Table as table
 use Rattle.rules.specs.Questions.{isFilled}
 use Rattle.device.specs.declared.Lane.{Lane}
-use Rattle.device.specs.Layout.{idMost, describedAt, lanesAt, laneSize, payloadAt, payloadMost}
+use Rattle.text.specs.Ids.{idMost}
+use Rattle.device.specs.Layout.{describedAt, lanesAt, laneSize, payloadAt, payloadMost}
 use Rattle.device.specs.Decode.{isSet, textAt, optionalAt}
 use Rattle.device.specs.Meaning.{TextIn, noLane}
 

@@ -2,67 +2,65 @@
 use payload::Datatype;
 use rules::DeviceState;
 use rules::LaneKind;
-use topic::Place;
+use text::Place;
 ghost use mathlib.Core.Path.{_≡_};
 ghost use mathlib.Core.Bool.{cond};
 ghost use Prim.Native.Nat.{_+_, _^_, _≤_, _<_, min};
 ghost use lib.ListN.{length};
-ghost use Rattle.trace.specs.Bytes.{u64};
 ghost use Rattle.text.specs.Bytes.{eqBytes};
 ghost use Rattle.rules.specs.Table.{rootOf, parentOf, versionOf, propertiesOf};
 ghost use Rattle.rules.specs.Find.{isNamed, firstAt};
 ghost use Rattle.rules.specs.Questions.{filledIn};
-ghost use Rattle.device.specs.Layout.{idMost, recordAt};
+ghost use Rattle.text.specs.Ids.{idMost};
+ghost use Rattle.device.specs.Layout.{propertiesMost, recordSize, recordAt, formatMost, laneSize};
 ghost use Rattle.device.specs.Decode.{isSet, textAt, recordOf, deviceOf};
 ghost use Rattle.device.specs.Meaning.{TextIn, OptionalIn, versionIs, PropertyIn, laneNumber, chosen};
 ghost use Rattle.device.specs.Parts.{describedText, LaneAt, LanesAt, ValueWord};
 
 // The layout: see specs/Layout.antt.
-const ID: usize = 0;
+pub const ID: usize = 0;
 
-const ID_MOST: usize = 32;
+pub const STATE: usize = 33;
 
-const STATE: usize = 33;
+pub const TIME: usize = 34;
 
-const TIME: usize = 34;
+pub const DESCRIBED: usize = 403;
 
-const DESCRIBED: usize = 42;
+pub const ROOT: usize = 404;
 
-const ROOT: usize = 43;
+pub const PARENT: usize = 437;
 
-const PARENT: usize = 76;
+pub const VERSION: usize = 470;
 
-const VERSION: usize = 109;
+pub const COUNT: usize = 478;
 
-const COUNT: usize = 117;
+pub const PROPERTIES_MOST: u8 = 24;
 
-const PROPERTIES_MOST: u8 = 24;
+pub const RECORDS: usize = 512;
 
-const RECORDS: usize = 512;
+pub const RECORD: usize = 320;
 
-const RECORD: usize = 320;
+pub const NODE: usize = 0;
 
-const NODE: usize = 0;
+pub const PROPERTY: usize = 33;
 
-const PROPERTY: usize = 33;
+pub const DATATYPE: usize = 66;
 
-const DATATYPE: usize = 66;
+pub const SETTABLE: usize = 67;
 
-const SETTABLE: usize = 67;
+pub const RETAINED: usize = 68;
 
-const RETAINED: usize = 68;
+pub const FORMAT: usize = 69;
 
-const FORMAT: usize = 69;
+pub const FORMAT_MOST: usize = payload::FORMAT_MOST;
 
-const FORMAT_MOST: usize = 64;
+pub const LANES: usize = 134;
 
-const LANES: usize = 134;
+pub const LANE: usize = 57;
 
-const LANE: usize = 57;
+pub const PAYLOAD: usize = 8;
 
-const PAYLOAD: usize = 8;
-
-const PAYLOAD_MOST: usize = 48;
+pub const PAYLOAD_MOST: usize = payload::PAYLOAD_MOST;
 
 // A byte string that may be missing, as a place in the room.
 pub enum Text {
@@ -106,46 +104,9 @@ fn is_set(room: &[u8], at: usize) -> bool
     memory::byte(room, at) != 0
 }
 
-// The number in the first eight bytes, the lowest first.
-fn eight(s: &[u8]) -> u64
-    requires { ⌜ 8 ≤ length (now s) ⌝ }
-    ensures { λ r. ⌜ r ≡ u64 (now (s .entry)) 0 ⌝ }
-{
-    let low = s[0] as u64 + 256 * (s[1] as u64 + 256 * (s[2] as u64 + 256 * s[3] as u64));
-    let high = s[4] as u64 + 256 * (s[5] as u64 + 256 * (s[6] as u64 + 256 * s[7] as u64));
-    low + 4294967296 * high
-}
-
-// The same of bytes that may be fewer.
-fn up_to_eight(s: &[u8]) -> u64
-    ensures { λ r. ⌜ r ≡ u64 (now (s .entry)) 0 ⌝ }
-{
-    let mut v: u64 = 0;
-    let mut j: usize = 8;
-    while j > 0 {
-        j -= 1;
-        v = v * 256 + memory::byte(s, j) as u64;
-    }
-    v
-}
-
-// The number in the eight bytes from a place on, the lowest first.
-pub fn number_at(bytes: &[u8], at: usize) -> u64
-    ensures { λ r. ⌜ r ≡ u64 (now (bytes .entry)) at ⌝ }
-{
-    if at < bytes.len() {
-        let s = &bytes[at..];
-        if s.len() < 8 {
-            return up_to_eight(s);
-        }
-        return eight(s);
-    }
-    0
-}
-
 // The byte string whose length byte is at a place, cut by the room's end.
 fn clipped_text(room: &[u8], at: usize, most: usize) -> Place
-    requires { ⌜ (at < 2 ^ 20) × (most ≤ 64) ⌝ }
+    requires { ⌜ (at < 2 ^ 20) × (most ≤ formatMost) ⌝ }
     ensures { λ r. ⌜ TextIn (now (room .entry)) (textAt (now (room .entry)) at most) r ⌝ }
 {
     let n = least(memory::byte(room, at) as usize, most);
@@ -159,7 +120,7 @@ fn clipped_text(room: &[u8], at: usize, most: usize) -> Place
 
 // The byte string whose length byte is at a place.
 fn text_at(room: &[u8], at: usize, most: usize) -> Place
-    requires { ⌜ (at < 2 ^ 20) × (most ≤ 64) ⌝ }
+    requires { ⌜ (at < 2 ^ 20) × (most ≤ formatMost) ⌝ }
     ensures { λ r. ⌜ TextIn (now (room .entry)) (textAt (now (room .entry)) at most) r ⌝ }
 {
     if room.len() <= at + most {
@@ -176,7 +137,7 @@ fn text_at(room: &[u8], at: usize, most: usize) -> Place
 pub fn id(room: &[u8]) -> Place
     ensures { λ r. ⌜ TextIn (now (room .entry)) (deviceOf (now (room .entry)) .id) r ⌝ }
 {
-    text_at(room, ID, ID_MOST)
+    text_at(room, ID, text::Id::MAX)
 }
 
 // The device's own state.
@@ -190,7 +151,7 @@ pub fn state(room: &[u8]) -> DeviceState
 pub fn time(room: &[u8]) -> u64
     ensures { λ r. ⌜ r ≡ deviceOf (now (room .entry)) .time ⌝ }
 {
-    number_at(room, TIME)
+    little_endian::get(room, TIME, 8)
 }
 
 // A byte string of the description that may be missing.
@@ -204,7 +165,7 @@ fn described_text(room: &[u8], at: usize) -> Text
     if !is_set(room, at) {
         return Text::Nothing;
     }
-    let place = text_at(room, at, ID_MOST);
+    let place = text_at(room, at, text::Id::MAX);
     Text::At { place: place }
 }
 
@@ -229,7 +190,7 @@ pub fn version_of(room: &[u8]) -> Version
     if !is_set(room, DESCRIBED) {
         return Version::Nothing;
     }
-    Version::Is(number_at(room, VERSION))
+    Version::Is(little_endian::get(room, VERSION, 8))
 }
 
 // How many properties the device has.
@@ -268,11 +229,11 @@ pub fn lane_of(p: Property, kind: LaneKind) -> Lane
 
 // The lane that starts at a place.
 fn lane_at(room: &[u8], a: usize) -> Lane
-    requires { ⌜ a + 64 < 2 ^ 20 ⌝ }
+    requires { ⌜ a + laneSize < 2 ^ 20 ⌝ }
     ensures { λ r. ⌜ LaneAt (now (room .entry)) a r ⌝ }
 {
     let filled = is_set(room, a + PAYLOAD);
-    let time = number_at(room, a);
+    let time = little_endian::get(room, a, 8);
     let payload = text_at(room, a + PAYLOAD, PAYLOAD_MOST);
     Lane {
         filled: filled,
@@ -283,7 +244,7 @@ fn lane_at(room: &[u8], a: usize) -> Lane
 
 // The lanes of the record at a place.
 fn lanes_at(room: &[u8], a: usize) -> [Lane; 3]
-    requires { ⌜ a + 320 < 2 ^ 20 ⌝ }
+    requires { ⌜ a + recordSize < 2 ^ 20 ⌝ }
     ensures { λ r. ⌜ LanesAt (now (room .entry)) a r ⌝ }
 {
     let value = lane_at(room, a + LANES);
@@ -304,8 +265,8 @@ pub fn property_at(room: &[u8], i: u8) -> Property
     ensures { λ r. ⌜ PropertyIn (now (room .entry)) (recordOf (now (room .entry)) (recordAt i)) r ⌝ }
 {
     let a = record_at(i);
-    let node = text_at(room, a + NODE, ID_MOST);
-    let id = text_at(room, a + PROPERTY, ID_MOST);
+    let node = text_at(room, a + NODE, text::Id::MAX);
+    let id = text_at(room, a + PROPERTY, text::Id::MAX);
     let datatype = payload::datatype_at(memory::byte(room, a + DATATYPE));
     let settable = is_set(room, a + SETTABLE);
     let retained = is_set(room, a + RETAINED);
@@ -327,7 +288,7 @@ fn id_is(room: &[u8], at: usize, id: &[u8]) -> bool
     requires { ⌜ at < 2 ^ 20 ⌝ }
     ensures { λ r. ⌜ r ≡ eqBytes (textAt (now (room .entry)) at idMost) (now (id .entry)) ⌝ }
 {
-    let p = text_at(room, at, ID_MOST);
+    let p = text_at(room, at, text::Id::MAX);
     let start = p.start;
     let end = p.end;
     text::same(&room[start..end], id)
@@ -361,7 +322,7 @@ pub fn find_property(room: &[u8], node: &[u8], id: &[u8]) -> u8
 
 // A word below 2^i, with its bit i set or not.
 fn with_bit(w: u32, i: u8, set: bool) -> u32
-    requires { ⌜ (i < 24) × (w < 2 ^ i) ⌝ }
+    requires { ⌜ (i < propertiesMost) × (w < 2 ^ i) ⌝ }
     ensures { λ r. ⌜ r ≡ cond set (2 ^ i) 0 + w ⌝ }
 {
     if !set {

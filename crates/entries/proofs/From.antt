@@ -5,12 +5,13 @@ use mathlib.Core.Path.{_≡_, refl, sym, ap, _∙_}
 use mathlib.Core.List.{List, [], _∷_}
 use mathlib.Core.Bool.{Bool, true, false, not, _&&_, _||_, cond}
 use lib.Dec.{leb}
-use lib.ListN.{length, take, drop, length-drop, length-take}
+use lib.ListN.{length, take, drop}
 use borrow.Author.Tests.{le-leb, lt-leb, leb-true, leb-false}
-use Rattle.text.specs.Bytes.{eqBytes, part}
+use Rattle.text.specs.Bytes.{eqBytes, slice}
 use Rattle.text.specs.Split.{split, firstLen, partAt}
 use Rattle.text.specs.declared.Part.{Part}
 use Rattle.text.specs.declared.Part.the-variants.{Found, Nothing}
+use Rattle.text.proofs.Slices.{slice-length}
 use Rattle.text.proofs.Split.{IsPart, is-part, is-none, split-more, split-last}
 use Rattle.entries.specs.Entries.{entriesOf, isIn, noneEmpty, noRepeats, isList, allIn}
 use Rattle.entries.specs.Parts.{EndsAt, from}
@@ -30,18 +31,15 @@ pub from-none : (s : List ℕ) (i : ℕ) → length s < i → from s i ≡ []
 unfolding from
 from-none s i h = rw (lt-leb i (length s) h)
 
-pub from-some : (s : List ℕ) (i e : ℕ) → i ≤ length s → EndsAt s i e → from s i ≡ part s i e ∷ from s (e + 1)
+pub from-some : (s : List ℕ) (i e : ℕ) → i ≤ length s → EndsAt s i e → from s i ≡ slice s i e ∷ from s (e + 1)
 unfolding from
 from-some s i e h k =
     let p : IsPart 44 s i i e (e + 1) = record { here = h; start = refl; end = k .is; next = refl; ordered = k .from; within = k .to } in
     rw (le-leb i (length s) h) (pick p (leb (e + 1) (length s)) refl)
   where
-    pick : IsPart 44 s i i e (e + 1) → (t : Bool) → leb (e + 1) (length s) ≡ t → split 44 (drop i s) ≡ part s i e ∷ cond t (split 44 (drop (e + 1) s)) []
+    pick : IsPart 44 s i i e (e + 1) → (t : Bool) → leb (e + 1) (length s) ≡ t → split 44 (drop i s) ≡ slice s i e ∷ cond t (split 44 (drop (e + 1) s)) []
     pick p true q = split-more 44 s i i e (e + 1) p (leb-true (e + 1) (length s) q)
     pick p false q = split-last 44 s i i e (e + 1) p (leb-false (e + 1) (length s) q)
-
-part-length : (s : List ℕ) (i e : ℕ) → i ≤ e → e ≤ length s → length (part s i e) ≡ e - i
-part-length s i e h k = rw (length-take, length-drop) (omega arith)
 
 -- both rules, an entry at a time
 pub good : List (List ℕ) → Bool
@@ -66,25 +64,25 @@ list-is s = ap good (sym (from-all s)) ∙ good-is (entriesOf s)
 module _ (s : List ℕ) (i e : ℕ) (h : i ≤ length s) (k : EndsAt s i e) where
   pub empty-here : e ≡ i → good (from s i) ≡ false
   unfolding good
-  empty-here z = rw (from-some s i e h k, part-length s i e (k .from) (k .to), lt-leb 1 (e - i) (omega arith))
+  empty-here z = rw (from-some s i e h k, slice-length s i e (k .from) (k .to), lt-leb 1 (e - i) (omega arith))
 
-  pub step-here : i < e → good (from s i) ≡ (not (isIn (part s i e) (from s (e + 1))) && good (from s (e + 1)))
+  pub step-here : i < e → good (from s i) ≡ (not (isIn (slice s i e) (from s (e + 1))) && good (from s (e + 1)))
   unfolding good
-  step-here l = rw (from-some s i e h k, part-length s i e (k .from) (k .to), le-leb 1 (e - i) (omega arith))
+  step-here l = rw (from-some s i e h k, slice-length s i e (k .from) (k .to), le-leb 1 (e - i) (omega arith))
 
-  pub found-here : (l : List ℕ) {r : Bool} → r ≡ eqBytes l (part s i e) → r ≡ true → isIn l (from s i) ≡ true
+  pub found-here : (l : List ℕ) {r : Bool} → r ≡ eqBytes l (slice s i e) → r ≡ true → isIn l (from s i) ≡ true
   unfolding isIn
   found-here l p q = rw (from-some s i e h k, sym p ∙ q)
 
-  pub other-here : (l : List ℕ) {r : Bool} → r ≡ eqBytes l (part s i e) → r ≡ false → isIn l (from s i) ≡ isIn l (from s (e + 1))
+  pub other-here : (l : List ℕ) {r : Bool} → r ≡ eqBytes l (slice s i e) → r ≡ false → isIn l (from s i) ≡ isIn l (from s (e + 1))
   unfolding isIn
   other-here l p q = rw (from-some s i e h k, sym p ∙ q)
 
-  pub out-here : (ms : List (List ℕ)) {r : Bool} → r ≡ isIn (part s i e) ms → r ≡ false → allIn (from s i) ms ≡ false
+  pub out-here : (ms : List (List ℕ)) {r : Bool} → r ≡ isIn (slice s i e) ms → r ≡ false → allIn (from s i) ms ≡ false
   unfolding allIn
   out-here ms p q = rw (from-some s i e h k, sym p ∙ q)
 
-  pub in-here : (ms : List (List ℕ)) {r : Bool} → r ≡ isIn (part s i e) ms → r ≡ true → allIn (from s i) ms ≡ allIn (from s (e + 1)) ms
+  pub in-here : (ms : List (List ℕ)) {r : Bool} → r ≡ isIn (slice s i e) ms → r ≡ true → allIn (from s i) ms ≡ allIn (from s (e + 1)) ms
   unfolding allIn
   in-here ms p q = rw (from-some s i e h k, sym p ∙ q)
 

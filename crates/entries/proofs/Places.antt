@@ -10,18 +10,7 @@ use borrow.Author.Tests.{not-true}
 use Rattle.text.specs.Bytes.{eqBytes}
 use Rattle.text.proofs.Bytes.{both, and-both, or-cases, eqBytes-refl, eqBytes-true}
 use Rattle.entries.specs.Entries.{isIn, noRepeats}
-
--- a place of the list that holds the entry
-abbrev pub Holds : List ℕ → List (List ℕ) → Type 0
-Holds l ls = (i : ℕ) × (i < length ls) × (getD ls i [] ≡ l)
-
--- each place holds an entry that passes the test
-abbrev pub Each : (List ℕ → Bool) → List (List ℕ) → Type 0
-Each test ls = (i : ℕ) → i < length ls → test (getD ls i []) ≡ true
-
--- no two places hold equal entries
-abbrev pub Distinct : List (List ℕ) → Type 0
-Distinct ls = (i j : ℕ) → i < j → j < length ls → getD ls i [] ≡ getD ls j [] → ⊥
+use Rattle.entries.specs.Places.{Holds, Each, Distinct}
 
 pub found : (l : List ℕ) (ls : List (List ℕ)) → isIn l ls ≡ true → Holds l ls
 unfolding isIn

@@ -10,7 +10,8 @@ use Rattle.text.specs.Bytes.{eqBytes}
 use Rattle.text.specs.Split.{split, onto}
 use Rattle.text.proofs.Bytes.{and-both}
 use Rattle.entries.specs.Entries.{entriesOf, isIn, noneEmpty, noRepeats, isList, allIn}
-use Rattle.entries.proofs.Places.{Holds, Each, Distinct, isIn-holds, each-is, noRepeats-distinct}
+use Rattle.entries.specs.Places.{Holds, Each, Distinct}
+use Rattle.entries.proofs.Places.{isIn-holds, each-is, noRepeats-distinct}
 
 -- "exactly one entry of the format": a place of the list holds it
 pub is-in : (l : List ℕ) (ls : List (List ℕ)) → (isIn l ls ≡ true) ↔ Holds l ls

@@ -15,7 +15,7 @@ use Rattle.fields.specs.declared.Kind.{Kind}
 use Rattle.fields.specs.declared.Kind.the-variants.{Text, Flag, Object, Id, Ids, Texts}
 use Rattle.fields.specs.declared.Field.{Field}
 use Rattle.fields.specs.declared.Field.the-variants.{Absent, One, Twice}
-use Rattle.fields.specs.Values.{textAt, isTrue, members, nameOf, all, isPlain, ofKind}
+use Rattle.fields.specs.Values.{stringBytes, isTrue, members, nameOf, all, isPlain, ofKind}
 use Rattle.fields.specs.Fields.{oneMore, pairs, fieldIn, field, optional, flagIn, plainIn, plainNames}
 use Rattle.fields.proofs.Walk.{Walking, walking-as, at-done, at-item, no-members, first-member}
 
@@ -50,7 +50,7 @@ module _ (s name : List ℕ) (seen : Field) (i : ℕ) {want : Field} (g : Lookin
   unfolding pairs fieldIn
   look-done q = at-done (memberAt s) (λ ms. fieldIn name seen (pairs s ms)) (length s) i g q
 
-  module _ {k e n : ℕ} (w : GotItem (memberAt s i) i (length s) (At k e n)) {t : List ℕ} {b : Bool} (x : t ≡ textAt s i) (y : b ≡ eqBytes t name) where
+  module _ {k e n : ℕ} (w : GotItem (memberAt s i) i (length s) (At k e n)) {t : List ℕ} {b : Bool} (x : t ≡ stringBytes s i) (y : b ≡ eqBytes t name) where
     hit : b ≡ eqBytes (nameOf s (record { name = i; value = k; end = e })) name
     unfolding nameOf
     hit = y ∙ ap (λ (u : List ℕ). eqBytes u name) x
@@ -113,6 +113,6 @@ module _ (s : List ℕ) (at : ℕ) {b : ℕ} (p : b ≡ byte s at) where
   unfolding plainNames
   names-first {i} e q h = subst (Naming s i) (plain-pairs s (members s at)) (first-member (all (λ m. isPlain (nameOf s m))) s at p e q h)
 
-pub name-plain : (s : List ℕ) (i k e : ℕ) {t : List ℕ} {b : Bool} → t ≡ textAt s i → b ≡ isPlain t → b ≡ isPlain (nameOf s (record { name = i; value = k; end = e }))
+pub name-plain : (s : List ℕ) (i k e : ℕ) {t : List ℕ} {b : Bool} → t ≡ stringBytes s i → b ≡ isPlain t → b ≡ isPlain (nameOf s (record { name = i; value = k; end = e }))
 unfolding nameOf
 name-plain s i k e x y = y ∙ ap isPlain x

@@ -17,12 +17,12 @@ use denote.Struct.Laws.{owed}
 use Rattle.json.specs.Bytes.{byte, ws}
 use Rattle.json.specs.Members.{Member, memberAt, GotItem}
 use Rattle.json.specs.declared.Item.the-variants.{At, Done}
-use Rattle.text.specs.Bytes.{part, eqBytes}
+use Rattle.text.specs.Bytes.{slice, eqBytes}
 use Rattle.fields.specs.declared.Field.{Field}
 use Rattle.fields.specs.declared.Field.the-variants.{Absent}
 use Rattle.fields.specs.declared.MemberAt.{MemberAt}
 use Rattle.fields.specs.declared.Members.{Members}
-use Rattle.fields.specs.Values.{textAt, isPlain, members, nameOf}
+use Rattle.fields.specs.Values.{stringBytes, isPlain, members, nameOf}
 use Rattle.fields.specs.Fields.{Pair, pairs, oneMore, fieldIn, field, plainIn, plainNames}
 use Rattle.fields.specs.Members.{stored, pairsOf, fieldOf}
 use Rattle.fields.proofs.Members as M
@@ -45,7 +45,7 @@ append-none (p ∷ ps) = ap (λ (r : List Pair). p ∷ r) (append-none ps)
 stored-append : (s : List ℕ) (xs ys : List MemberAt) → stored s (xs ++ ys) ≡ stored s xs ++ stored s ys
 unfolding stored
 stored-append s [] ys = refl
-stored-append s (x ∷ xs) ys = ap (λ (r : List Pair). record { name = part s (x .name) (x .end); value = x .value } ∷ r) (stored-append s xs ys)
+stored-append s (x ∷ xs) ys = ap (λ (r : List Pair). record { name = slice s (x .name) (x .end); value = x .value } ∷ r) (stored-append s xs ys)
 
 -- ---- what a table shows
 
@@ -97,7 +97,7 @@ module _ (s : List ℕ) (want : List Pair) (items : List MemberAt) (n i : ℕ) (
   fill-done q r e c d =
       shows-stored s r e (omega (arith, c, g .few)) ∙ rw (c, d) (sym (append-none (stored s (take n items))) ∙ at-done (memberAt s) (λ ms. stored s (take n items) ++ pairs s ms) (length s) i (g .walking) q)
 
-  pub fill-next : (t : ℕ) {k e j : ℕ} → n < 32 → GotItem (memberAt s i) i (length s) (At k e j) → part s (i + 1) t ≡ textAt s i → Filling s want (set items n (record { name = i + 1; end = t; value = k })) (n + 1) j
+  pub fill-next : (t : ℕ) {k e j : ℕ} → n < 32 → GotItem (memberAt s i) i (length s) (At k e j) → slice s (i + 1) t ≡ stringBytes s i → Filling s want (set items n (record { name = i + 1; end = t; value = k })) (n + 1) j
   unfolding stored pairs nameOf
   fill-next t {k} {e} {j} h w x =
       let y : MemberAt = record { name = i + 1; end = t; value = k } in
@@ -137,7 +137,7 @@ module _ {X : Type 0} (s : List ℕ) (f : List Pair → X) (n : ℕ) (items : Li
 
   module _ (x : MemberAt) (h : j < n) where
     -- the pair at j comes first
-    here : f (record { name = part s (getD items j x .name) (getD items j x .end); value = getD items j x .value } ∷ stored s (take (n - (j + 1)) (drop (j + 1) items))) ≡ want
+    here : f (record { name = slice s (getD items j x .name) (getD items j x .end); value = getD items j x .value } ∷ stored s (take (n - (j + 1)) (drop (j + 1) items))) ≡ want
     unfolding stored
     here =
         let z : n - j ≡ suc (n - (j + 1)) = omega arith in
@@ -145,7 +145,7 @@ module _ {X : Type 0} (s : List ℕ) (f : List Pair → X) (n : ℕ) (items : Li
         ap (λ (l : List MemberAt). f (stored s l)) (sym q) ∙ g .same
 
     -- the next turn, with another f that agrees on what is left
-    pub read-next : (f′ : List Pair → X) → ((ps : List Pair) → f′ ps ≡ f (record { name = part s (getD items j x .name) (getD items j x .end); value = getD items j x .value } ∷ ps)) → Reading s f′ n items (j + 1) want
+    pub read-next : (f′ : List Pair → X) → ((ps : List Pair) → f′ ps ≡ f (record { name = slice s (getD items j x .name) (getD items j x .end); value = getD items j x .value } ∷ ps)) → Reading s f′ n items (j + 1) want
     read-next f′ e = record { small = omega arith; few = g .few; long = g .long; same = e (stored s (take (n - (j + 1)) (drop (j + 1) items))) ∙ here }
 
 pub own-field : (s name : List ℕ) (m : Members) {t : Bool} → t ≡ (m .over || ltb 32 (m .n)) → t ≡ false → fieldIn name Absent (stored s (take (m .n) (m .items))) ≡ fieldOf s m name
@@ -157,8 +157,8 @@ module _ (s name : List ℕ) (seen : Field) (n : ℕ) (items : List MemberAt) (j
   unfolding fieldIn
   seen-all h = read-done s (fieldIn name seen) n items j g h
 
-  module _ (x : MemberAt) (h : j < n) {t : List ℕ} {b : Bool} (y : t ≡ part s (getD items j x .name) (getD items j x .end)) (z : b ≡ eqBytes t name) where
-    same : b ≡ eqBytes (part s (getD items j x .name) (getD items j x .end)) name
+  module _ (x : MemberAt) (h : j < n) {t : List ℕ} {b : Bool} (y : t ≡ slice s (getD items j x .name) (getD items j x .end)) (z : b ≡ eqBytes t name) where
+    same : b ≡ eqBytes (slice s (getD items j x .name) (getD items j x .end)) name
     same = z ∙ ap (λ (u : List ℕ). eqBytes u name) y
 
     pub seen-hit : {seen′ : Field} → b ≡ true → seen′ ≡ oneMore seen (getD items j x .value) → Reading s (fieldIn name seen′) n items (j + 1) want
@@ -174,8 +174,8 @@ module _ (s : List ℕ) (n : ℕ) (items : List MemberAt) (j : ℕ) {want : Bool
   unfolding plainIn
   plain-all h = read-done s plainIn n items j g h
 
-  module _ (x : MemberAt) (h : j < n) {t : List ℕ} {b : Bool} (y : t ≡ part s (getD items j x .name) (getD items j x .end)) (z : b ≡ isPlain t) where
-    here-plain : b ≡ isPlain (part s (getD items j x .name) (getD items j x .end))
+  module _ (x : MemberAt) (h : j < n) {t : List ℕ} {b : Bool} (y : t ≡ slice s (getD items j x .name) (getD items j x .end)) (z : b ≡ isPlain t) where
+    here-plain : b ≡ isPlain (slice s (getD items j x .name) (getD items j x .end))
     here-plain = z ∙ ap isPlain y
 
     pub plain-next : b ≡ true → Reading s plainIn n items (j + 1) want

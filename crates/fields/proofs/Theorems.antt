@@ -6,7 +6,7 @@ use mathlib.Core.Bool.{true, not}
 use Rattle.text.specs.Ids.{isId}
 use Rattle.fields.specs.Values.{members, nameOf, all, isPlain}
 use Rattle.fields.specs.Fields.{field, isTwice}
-use Rattle.fields.proofs.Names.{Unlike}
+use Rattle.fields.specs.Names.{Unlike}
 use Rattle.fields.proofs.Names as names
 use Rattle.fields.proofs.Plain as plain
 

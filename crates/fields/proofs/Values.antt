@@ -1,12 +1,12 @@
 -- What each way through the code shows of a value.
-use Prim.Native.Nat.{ℕ, zero, suc, _+_, _-_, _≤_, _<_}
+use Prim.Native.Nat.{ℕ, _+_, _-_, _≤_, _<_}
 use native.Mathlib.Numerals.{add-one}
 use native.Mathlib.Omega.{arith}
 use mathlib.Core.Path.{_≡_, refl, sym, ap, _∙_, subst}
 use mathlib.Core.List.{List, [], _∷_}
 use mathlib.Core.Bool.{Bool, true, false, _&&_, _||_}
-use lib.ListN.{length, take, drop, getD, length-drop, drop-of-length-le}
-use lib.Seq.{drop-cons, take-all, take-nil}
+use lib.ListN.{length, drop, getD, drop-of-length-le}
+use lib.Seq.{drop-cons}
 use lib.Dec.{eqb}
 use borrow.Author.Tests.{ne-eqb, eq-eqb}
 use Rattle.json.specs.Bytes.{byte}
@@ -14,58 +14,47 @@ use Rattle.json.specs.Strings.{stringAt}
 use Rattle.json.specs.Value.{valueAt}
 use Rattle.json.specs.declared.Scan.{Scan}
 use Rattle.json.specs.declared.Scan.the-variants.{End, Bad}
-use Rattle.text.specs.Bytes.{part}
+use Rattle.text.specs.Bytes.{slice}
+use Rattle.text.proofs.Slices.{slice-none}
 use Rattle.text.specs.Ids.{isId}
-use Rattle.fields.specs.Values.{bytesAt, textAt, isText, isObject, isArray, isTrue, isFlag, isPlain, isIdText}
+use Rattle.fields.specs.Values.{valueBytes, stringBytes, isStringAt, isObject, isArray, isTrue, isFlag, isPlain, isIdText}
 use Rattle.fields.specs.Values.{arrayOf, all, elements}
 use Rattle.json.specs.Members.{Member, elementAt}
 use Rattle.fields.specs.Parts.{itemTest}
 
--- ---- a part of a byte string
-
-module _ (s : List ℕ) (a e : ℕ) where
-  pub part-none : e < a → [] ≡ part s a e
-  part-none h = let z : e - a ≡ 0 = omega arith in rw z
-
-  pub part-rest : length s < e → a ≤ length s → take (length s - a) (drop a s) ≡ part s a e
-  part-rest h k = take-all (length s - a) (drop a s) (rw (length-drop a s) (omega arith)) ∙ sym (take-all (e - a) (drop a s) (rw (length-drop a s) (omega arith)))
-
-  pub part-out : length s < a → [] ≡ part s a e
-  part-out h = rw (drop-of-length-le s {i = a} (omega arith), take-nil (e - a))
-
 -- ---- a value's bytes
 
 module _ (s : List ℕ) (k : ℕ) {r : Scan} (p : r ≡ valueAt 16 s k) where
-  pub bytes-none : {e : ℕ} → r ≡ Bad e → [] ≡ bytesAt s k
-  unfolding bytesAt
-  bytes-none q = rw (sym p ∙ q, bytesAt)
+  pub bytes-none : {e : ℕ} → r ≡ Bad e → [] ≡ valueBytes s k
+  unfolding valueBytes
+  bytes-none q = rw (sym p ∙ q, valueBytes)
 
-  pub bytes-some : {e : ℕ} {t : List ℕ} → r ≡ End e → t ≡ part s k e → t ≡ bytesAt s k
-  unfolding bytesAt
-  bytes-some q x = x ∙ rw (sym p ∙ q, bytesAt)
+  pub bytes-some : {e : ℕ} {t : List ℕ} → r ≡ End e → t ≡ slice s k e → t ≡ valueBytes s k
+  unfolding valueBytes
+  bytes-some q x = x ∙ rw (sym p ∙ q, valueBytes)
 
 -- ---- a string's bytes
 
 module _ (s : List ℕ) (k : ℕ) {r : Scan} (p : r ≡ stringAt s k) where
-  pub text-none : {e : ℕ} → r ≡ Bad e → [] ≡ textAt s k
-  unfolding textAt
-  text-none q = rw (sym p ∙ q, textAt)
+  pub text-none : {e : ℕ} → r ≡ Bad e → [] ≡ stringBytes s k
+  unfolding stringBytes
+  text-none q = rw (sym p ∙ q, stringBytes)
 
-  pub text-some : {e : ℕ} {t : List ℕ} → r ≡ End e → t ≡ part s (k + 1) (e - 1) → t ≡ textAt s k
-  unfolding textAt
-  text-some q x = x ∙ rw (sym p ∙ q, textAt)
+  pub text-some : {e : ℕ} {t : List ℕ} → r ≡ End e → t ≡ slice s (k + 1) (e - 1) → t ≡ stringBytes s k
+  unfolding stringBytes
+  text-some q x = x ∙ rw (sym p ∙ q, stringBytes)
 
-  pub end-none : {e : ℕ} → r ≡ Bad e → part s (k + 1) 0 ≡ textAt s k
-  end-none q = sym (part-none s (k + 1) 0 (omega arith)) ∙ text-none q
+  pub end-none : {e : ℕ} → r ≡ Bad e → slice s (k + 1) 0 ≡ stringBytes s k
+  end-none q = sym (slice-none s (k + 1) 0 (omega arith)) ∙ text-none q
 
-  pub end-some : {e : ℕ} → r ≡ End e → part s (k + 1) (e - 1) ≡ textAt s k
+  pub end-some : {e : ℕ} → r ≡ End e → slice s (k + 1) (e - 1) ≡ stringBytes s k
   end-some q = text-some q refl
 
 -- ---- kinds
 
 module _ (s : List ℕ) (k : ℕ) {b : ℕ} (p : b ≡ byte s k) where
-  pub text-is : eqb b 34 ≡ isText s k
-  unfolding isText
+  pub text-is : eqb b 34 ≡ isStringAt s k
+  unfolding isStringAt
   text-is = rw p
 
   pub object-is : eqb b 123 ≡ isObject s k
@@ -84,12 +73,12 @@ pub flag-yes : (s : List ℕ) (k : ℕ) {t : Bool} → t ≡ isTrue s k → t �
 unfolding isFlag
 flag-yes s k e q = rw (sym e ∙ q)
 
-module _ (s : List ℕ) (k : ℕ) {t : Bool} (e : t ≡ isText s k) where
+module _ (s : List ℕ) (k : ℕ) {t : Bool} (e : t ≡ isStringAt s k) where
   pub id-no : t ≡ false → false ≡ isIdText s k
   unfolding isIdText
   id-no q = rw (sym e ∙ q)
 
-  pub id-yes : {u : List ℕ} {r : Bool} → t ≡ true → u ≡ textAt s k → r ≡ isId u → r ≡ isIdText s k
+  pub id-yes : {u : List ℕ} {r : Bool} → t ≡ true → u ≡ stringBytes s k → r ≡ isId u → r ≡ isIdText s k
   unfolding isIdText
   id-yes q x y = y ∙ rw (sym e ∙ q, x)
 
@@ -124,6 +113,6 @@ module _ (s : List ℕ) (k : ℕ) {ids r : Bool} where
   unfolding itemTest
   item-id q x = rw q x
 
-  pub item-text : ids ≡ false → r ≡ isText s k → r ≡ itemTest ids s k
+  pub item-text : ids ≡ false → r ≡ isStringAt s k → r ≡ itemTest ids s k
   unfolding itemTest
   item-text q x = rw q x

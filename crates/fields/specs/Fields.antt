@@ -8,7 +8,7 @@ use Rattle.text.specs.Bytes.{eqBytes}
 use Rattle.fields.specs.declared.Kind.{Kind}
 use Rattle.fields.specs.declared.Field.{Field}
 use Rattle.fields.specs.declared.Field.the-variants.{Absent, One, Twice}
-use Rattle.fields.specs.Values.{textAt, isTrue, members, nameOf, isPlain, ofKind}
+use Rattle.fields.specs.Values.{stringBytes, isTrue, members, nameOf, isPlain, ofKind}
 
 -- no rule is broken
 unfoldable pub holds : List Bool → Bool
@@ -61,7 +61,7 @@ isTwice Twice = true
 -- the string that a field holds
 unfoldable pub textIn : List ℕ → Field → Option (List ℕ)
 textIn s Absent = none
-textIn s (One k) = some (textAt s k)
+textIn s (One k) = some (stringBytes s k)
 textIn s Twice = none
 
 -- the boolean that a field holds, with what holds where it is absent

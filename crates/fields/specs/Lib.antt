@@ -1,4 +1,5 @@
 pub mod Values
 pub mod Fields
 pub mod Members
+pub mod Names
 pub mod Parts

@@ -4,7 +4,7 @@ use mathlib.Core.List.{List, [], _∷_}
 use mathlib.Core.Bool.{_||_, cond}
 use lib.ListN.{take}
 use lib.Dec.{ltb}
-use Rattle.text.specs.Bytes.{part}
+use Rattle.text.specs.Bytes.{slice}
 use Rattle.fields.specs.declared.Field.{Field}
 use Rattle.fields.specs.declared.Field.the-variants.{Absent}
 use Rattle.fields.specs.declared.MemberAt.{MemberAt}
@@ -14,7 +14,7 @@ use Rattle.fields.specs.Fields.{Pair, pairs, fieldIn}
 
 unfoldable pub stored : List ℕ → List MemberAt → List Pair
 stored s [] = []
-stored s (x ∷ xs) = record { name = part s (x .name) (x .end); value = x .value } ∷ stored s xs
+stored s (x ∷ xs) = record { name = slice s (x .name) (x .end); value = x .value } ∷ stored s xs
 
 -- the pairs in the table, which is an array of 32; those of the object at `at` where there were too many
 unfoldable pub pairsOf : List ℕ → Members → List Pair

@@ -8,21 +8,21 @@ use Rattle.json.specs.Strings.{stringAt}
 use Rattle.json.specs.Value.{valueAt}
 use Rattle.json.specs.Members.{Member, membersAt, elementsAt}
 use Rattle.json.specs.declared.Scan.the-variants.{End, Bad}
-use Rattle.text.specs.Bytes.{part}
+use Rattle.text.specs.Bytes.{slice}
 use Rattle.text.specs.Ids.{isId}
 use Rattle.fields.specs.declared.Kind.{Kind}
 use Rattle.fields.specs.declared.Kind.the-variants.{Text, Flag, Object, Id, Ids, Texts}
 
 -- the bytes of the value at k
-unfoldable pub bytesAt : List ℕ → ℕ → List ℕ
-bytesAt s k = elim (valueAt 16 s k) [ End e ↦ part s k e | Bad e ↦ [] ]
+unfoldable pub valueBytes : List ℕ → ℕ → List ℕ
+valueBytes s k = elim (valueAt 16 s k) [ End e ↦ slice s k e | Bad e ↦ [] ]
 
 -- the bytes between the quotes of the string at k: the string itself where there is no backslash. None where no string stands there
-unfoldable pub textAt : List ℕ → ℕ → List ℕ
-textAt s k = elim (stringAt s k) [ End e ↦ part s (k + 1) (e - 1) | Bad e ↦ [] ]
+unfoldable pub stringBytes : List ℕ → ℕ → List ℕ
+stringBytes s k = elim (stringAt s k) [ End e ↦ slice s (k + 1) (e - 1) | Bad e ↦ [] ]
 
-unfoldable pub isText : List ℕ → ℕ → Bool
-isText s k = eqb (byte s k) 34
+unfoldable pub isStringAt : List ℕ → ℕ → Bool
+isStringAt s k = eqb (byte s k) 34
 
 unfoldable pub isObject : List ℕ → ℕ → Bool
 isObject s k = eqb (byte s k) 123
@@ -46,7 +46,7 @@ unfoldable pub elements : List ℕ → ℕ → List Member
 elements s k = elim (isArray s k) [ true ↦ elementsAt s k | false ↦ [] ]
 
 unfoldable pub nameOf : List ℕ → Member → List ℕ
-nameOf s m = textAt s (m .name)
+nameOf s m = stringBytes s (m .name)
 
 unfoldable pub all : (Member → Bool) → List Member → Bool
 all test [] = true
@@ -59,7 +59,7 @@ isPlain (b ∷ bs) = elim (eqb b 92) [ true ↦ false | false ↦ isPlain bs ]
 
 -- a string that is an ID. An ID has no backslash
 unfoldable pub isIdText : List ℕ → ℕ → Bool
-isIdText s k = isText s k && isId (textAt s k)
+isIdText s k = isStringAt s k && isId (stringBytes s k)
 
 -- an array each of whose elements passes a test
 unfoldable pub arrayOf : (List ℕ → ℕ → Bool) → List ℕ → ℕ → Bool
@@ -67,9 +67,9 @@ arrayOf test s k = isArray s k && all (λ m. test s (m .value)) (elements s k)
 
 -- what a known field may hold: a string, a boolean, an object, an ID, an array of IDs, an array of strings. `null` is none of these
 unfoldable pub ofKind : Kind → List ℕ → ℕ → Bool
-ofKind Text s k = isText s k
+ofKind Text s k = isStringAt s k
 ofKind Flag s k = isFlag s k
 ofKind Object s k = isObject s k
 ofKind Id s k = isIdText s k
 ofKind Ids s k = arrayOf isIdText s k
-ofKind Texts s k = arrayOf isText s k
+ofKind Texts s k = arrayOf isStringAt s k

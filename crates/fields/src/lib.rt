@@ -5,8 +5,8 @@ ghost use mathlib.Core.Path.{_≡_};
 ghost use mathlib.Core.Bool.{_||_};
 ghost use Prim.Native.Nat.{_+_};
 ghost use lib.Dec.{ltb};
-ghost use Rattle.text.specs.Bytes.{part};
-ghost use Rattle.fields.specs.Values.{bytesAt, textAt, isText, isObject, isArray, isTrue, isFlag, isPlain, isIdText, members, arrayOf, ofKind};
+ghost use Rattle.text.specs.Bytes.{slice};
+ghost use Rattle.fields.specs.Values.{valueBytes, stringBytes, isStringAt, isObject, isArray, isTrue, isFlag, isPlain, isIdText, members, arrayOf, ofKind};
 ghost use Rattle.fields.specs.Parts.{itemTest, Holds};
 ghost use Rattle.fields.specs.Fields.{oneMore, pairs, field, optional, flagIn, plainIn, plainNames};
 ghost use Rattle.fields.specs.Members.{pairsOf, fieldOf};
@@ -43,44 +43,28 @@ pub struct Members {
     pub items: [MemberAt; 32],
 }
 
-// The bytes from a place up to another, as far as there are any.
-pub fn slice(s: &[u8], a: usize, e: usize) -> &[u8]
-    ensures { λ r. ⌜ now r ≡ part (now (s .entry)) a e ⌝ }
-{
-    if e < a {
-        return &s[..0];
-    }
-    if e <= s.len() {
-        return &s[a..e];
-    }
-    if a <= s.len() {
-        return &s[a..];
-    }
-    &s[..0]
-}
-
 // The bytes of the value at `k`.
 pub fn bytes_at(s: &[u8], k: usize) -> &[u8]
-    ensures { λ r. ⌜ now r ≡ bytesAt (now (s .entry)) k ⌝ }
+    ensures { λ r. ⌜ now r ≡ valueBytes (now (s .entry)) k ⌝ }
 {
     match json::value(s, k, 16) {
         Scan::Bad(_) => &s[..0],
-        Scan::End(e) => slice(s, k, e),
+        Scan::End(e) => text::slice(s, k, e),
     }
 }
 
 // The bytes between the quotes of the string at `k`.
 pub fn text_at(s: &[u8], k: usize) -> &[u8]
-    ensures { λ r. ⌜ now r ≡ textAt (now (s .entry)) k ⌝ }
+    ensures { λ r. ⌜ now r ≡ stringBytes (now (s .entry)) k ⌝ }
 {
     match json::string::string(s, k) {
         Scan::Bad(_) => &s[..0],
-        Scan::End(e) => slice(s, k + 1, e - 1),
+        Scan::End(e) => text::slice(s, k + 1, e - 1),
     }
 }
 
 pub fn is_text(s: &[u8], k: usize) -> bool
-    ensures { λ r. ⌜ r ≡ isText (now (s .entry)) k ⌝ }
+    ensures { λ r. ⌜ r ≡ isStringAt (now (s .entry)) k ⌝ }
 {
     json::peek(s, k) == 34
 }
@@ -185,7 +169,7 @@ fn plain_names(s: &[u8], at: usize) -> bool
 
 // Where the string at `k` has its closing quote.
 fn text_end(s: &[u8], k: usize) -> usize
-    ensures { λ r. ⌜ part (now (s .entry)) (k + 1) r ≡ textAt (now (s .entry)) k ⌝ }
+    ensures { λ r. ⌜ slice (now (s .entry)) (k + 1) r ≡ stringBytes (now (s .entry)) k ⌝ }
 {
     match json::string::string(s, k) {
         Scan::Bad(_) => 0,
@@ -264,7 +248,7 @@ pub fn lookup_in(s: &[u8], m: Members, name: &[u8]) -> Field
     while j < n {
         let x = items[j];
         j += 1;
-        if text::same(slice(s, x.name, x.end), name) {
+        if text::same(text::slice(s, x.name, x.end), name) {
             seen = one_more(seen, x.value);
         }
     }
@@ -283,7 +267,7 @@ pub fn are_plain(s: &[u8], m: Members) -> bool
     let mut j = 0;
     while j < n {
         let x = items[j];
-        if !is_plain(slice(s, x.name, x.end)) {
+        if !is_plain(text::slice(s, x.name, x.end)) {
             return false;
         }
         j += 1;

@@ -16,21 +16,21 @@ use Rattle.device.specs.Layout.{payloadAt}
 use Rattle.device.specs.Decode.{isSet, textAt, optionalAt, heldAt}
 use Rattle.patch.proofs.Frame.{Alike}
 use Rattle.imprint.specs.Fits.{FitsIdOrNone}
-use Rattle.imprint.specs.Parts.{Within, Texted, flag}
+use Rattle.imprint.specs.Parts.{WritesWithin, Texted, flag}
 
 -- ---- bytes that were not written
 
-module _ {m m′ : List ℕ} {a b : ℕ} (w : Within m a b m′) where
+module _ {m m′ : List ℕ} {a b : ℕ} (w : WritesWithin m a b m′) where
   pub alike-below : (k n : ℕ) → k + n ≤ a → k + n ≤ length m → Alike m′ k m k n
   alike-below k n h l = record { inside = omega (arith, w .kept); inside′ = l; bytes = λ i q. w .below (k + i) (omega arith) }
 
   pub alike-above : (k n : ℕ) → b ≤ k → k + n ≤ length m → Alike m′ k m k n
   alike-above k n h l = record { inside = omega (arith, w .kept); inside′ = l; bytes = λ i q. w .above (k + i) (omega arith) }
 
-  pub wider : (a′ b′ : ℕ) → a′ ≤ a → b ≤ b′ → Within m a′ b′ m′
+  pub wider : (a′ b′ : ℕ) → a′ ≤ a → b ≤ b′ → WritesWithin m a′ b′ m′
   wider a′ b′ p q = record { kept = w .kept; below = λ i h. w .below i (omega arith); above = λ i h. w .above i (omega arith) }
 
-pub then : {m m₁ m₂ : List ℕ} {a b : ℕ} → Within m a b m₁ → Within m₁ a b m₂ → Within m a b m₂
+pub then : {m m₁ m₂ : List ℕ} {a b : ℕ} → WritesWithin m a b m₁ → WritesWithin m₁ a b m₂ → WritesWithin m a b m₂
 then u v = record { kept = v .kept ∙ u .kept; below = λ i h. v .below i h ∙ u .below i h; above = λ i h. v .above i h ∙ u .above i h }
 
 -- ---- single bytes

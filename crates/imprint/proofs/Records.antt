@@ -23,19 +23,20 @@ use Rattle.properties.specs.Property.{textOf}
 use Rattle.properties.specs.Entries.{content, contents}
 use Rattle.properties.proofs.Insertion.{contents-append}
 use Rattle.rules.specs.Table.{Property, emptyLanes}
-use Rattle.device.specs.Layout.{idMost, formatMost, nodeAt, propertyAt, datatypeCodeAt, settableAt, retainedAt, formatAt, lanesAt, laneSize, payloadAt, recordsAt, recordSize, recordAt, propertiesMost}
+use Rattle.text.specs.Ids.{idMost}
+use Rattle.device.specs.Layout.{formatMost, nodeAt, propertyAt, datatypeCodeAt, settableAt, retainedAt, formatAt, lanesAt, laneSize, payloadAt, recordsAt, recordSize, recordAt, propertiesMost}
 use Rattle.device.specs.Decode.{isSet, textAt, heldAt, declaredAt, recordOf}
 use Rattle.patch.proofs.Frame.{text-alike, record-alike}
 use Rattle.imprint.specs.Fits.{FitsProperty, FitEach}
-use Rattle.imprint.specs.Parts.{Within, Texted, Traits, Blank, Recorded, Listed, bare, flag}
+use Rattle.imprint.specs.Parts.{WritesWithin, Texted, Traits, Blank, Recorded, Listed, bare, flag}
 use Rattle.imprint.proofs.Fields.{alike-below, wider, then, is-flag, empty-lane}
 
 -- ---- one record: four writes, one after the other
 
 module _ (m₀ m₁ m₂ m₃ m₄ s t₁ t₂ t₃ : List ℕ) (e : Entry) (a code : ℕ) (l : a + recordSize ≤ length m₀) (z : Blank m₀ a)
-    (p₁ : t₁ ≡ values.textAt s (e .node)) (w₁ : Texted m₀ t₁ a idMost m₁)
-    (p₂ : t₂ ≡ values.textAt s (e .id)) (w₂ : Texted m₁ t₂ (a + propertyAt) idMost m₂)
-    (q : code ≡ codeOf (e .datatype)) (w₃ : Traits m₂ (a + datatypeCodeAt) code (flag (e .settable)) (flag (e .retained)) m₃)
+    (p₁ : t₁ ≡ values.stringBytes s (e .node)) (w₁ : Texted m₀ t₁ (a + nodeAt) idMost m₁)
+    (p₂ : t₂ ≡ values.stringBytes s (e .id)) (w₂ : Texted m₁ t₂ (a + propertyAt) idMost m₂)
+    (q : code ≡ codeOf (e .datatype)) (w₃ : Traits m₂ a code (flag (e .settable)) (flag (e .retained)) m₃)
     (p₃ : t₃ ≡ textOf (textIn s (e .format))) (w₄ : Texted m₃ (textOf (keptBytes t₃ (e .kept))) (a + formatAt) formatMost m₄) where
   long₁ : length m₁ ≡ length m₀
   long₁ = w₁ .within .kept
@@ -46,35 +47,33 @@ module _ (m₀ m₁ m₂ m₃ m₄ s t₁ t₂ t₃ : List ℕ) (e : Entry) (a c
   long₃ : length m₃ ≡ length m₀
   long₃ = w₃ .within .kept ∙ long₂
 
-  only : Within m₀ a (a + recordSize) m₄
+  only : WritesWithin m₀ a (a + recordSize) m₄
   only =
       then (wider (w₁ .within) a (a + recordSize) (omega arith) (omega arith))
       (then (wider (w₂ .within) a (a + recordSize) (omega arith) (omega arith))
       (then (wider (w₃ .within) a (a + recordSize) (omega arith) (omega arith)) (wider (w₄ .within) a (a + recordSize) (omega arith) (omega arith))))
 
-  node-is : length t₁ ≤ idMost → textAt m₄ (a + nodeAt) idMost ≡ values.textAt s (e .node)
+  node-is : length t₁ ≤ idMost → textAt m₄ (a + nodeAt) idMost ≡ values.stringBytes s (e .node)
   node-is h =
-      let z : a + nodeAt ≡ a = omega arith in
-      ap (λ (k : ℕ). textAt m₄ k idMost) z
-      ∙ text-alike idMost (alike-below (w₄ .within) a 33 (omega arith) (omega (arith, long₃)))
-      ∙ text-alike idMost (alike-below (w₃ .within) a 33 (omega arith) (omega (arith, long₂)))
-      ∙ text-alike idMost (alike-below (w₂ .within) a 33 (omega arith) (omega (arith, long₁)))
+      text-alike idMost (alike-below (w₄ .within) (a + nodeAt) 33 (omega arith) (omega (arith, long₃)))
+      ∙ text-alike idMost (alike-below (w₃ .within) (a + nodeAt) 33 (omega arith) (omega (arith, long₂)))
+      ∙ text-alike idMost (alike-below (w₂ .within) (a + nodeAt) 33 (omega arith) (omega (arith, long₁)))
       ∙ w₁ .text h ∙ p₁
 
-  id-is : length t₂ ≤ idMost → textAt m₄ (a + propertyAt) idMost ≡ values.textAt s (e .id)
+  id-is : length t₂ ≤ idMost → textAt m₄ (a + propertyAt) idMost ≡ values.stringBytes s (e .id)
   id-is h =
       text-alike idMost (alike-below (w₄ .within) (a + propertyAt) 33 (omega arith) (omega (arith, long₃)))
       ∙ text-alike idMost (alike-below (w₃ .within) (a + propertyAt) 33 (omega arith) (omega (arith, long₂)))
       ∙ w₂ .text h ∙ p₂
 
   code-is : datatypeAt (getD m₄ (a + datatypeCodeAt) 0) ≡ e .datatype
-  code-is = ap datatypeAt (w₄ .within .below (a + datatypeCodeAt) (omega arith) ∙ w₃ .first ∙ q) ∙ code-back (e .datatype)
+  code-is = ap datatypeAt (w₄ .within .below (a + datatypeCodeAt) (omega arith) ∙ w₃ .code ∙ q) ∙ code-back (e .datatype)
 
   settable-is : isSet m₄ (a + settableAt) ≡ e .settable
-  settable-is = is-flag m₄ (a + settableAt) (e .settable) (w₄ .within .below (a + settableAt) (omega arith) ∙ ap (λ (k : ℕ). getD m₃ k 0) (omega arith) ∙ w₃ .second)
+  settable-is = is-flag m₄ (a + settableAt) (e .settable) (w₄ .within .below (a + settableAt) (omega arith) ∙ w₃ .settable)
 
   retained-is : isSet m₄ (a + retainedAt) ≡ e .retained
-  retained-is = is-flag m₄ (a + retainedAt) (e .retained) (w₄ .within .below (a + retainedAt) (omega arith) ∙ ap (λ (k : ℕ). getD m₃ k 0) (omega arith) ∙ w₃ .third)
+  retained-is = is-flag m₄ (a + retainedAt) (e .retained) (w₄ .within .below (a + retainedAt) (omega arith) ∙ w₃ .retained)
 
   format-is : length (textOf (keptBytes t₃ (e .kept))) ≤ formatMost → textAt m₄ (a + formatAt) formatMost ≡ textOf (keptBytes (textOf (textIn s (e .format))) (e .kept))
   format-is h = w₄ .text h ∙ ap (λ (t : List ℕ). textOf (keptBytes t (e .kept))) p₃
@@ -126,7 +125,7 @@ contents-snoc s blank items i h = ap (contents s) (take-suc items i blank h) ∙
 
 -- the records of the first i entries
 pub record Rows (m s : List ℕ) (items : List Entry) (i : ℕ) (m′ : List ℕ) : Type 0 where
-  pub within : Within m recordsAt (recordAt i) m′
+  pub within : WritesWithin m recordsAt (recordAt i) m′
   pub rows : FitEach (contents s (take i items)) → tab i (λ k. recordOf m′ (recordAt k)) ≡ emptyLanes (contents s (take i items))
 
 pub rows-none : (m s : List ℕ) (items : List Entry) → Rows m s items 0 m
@@ -170,5 +169,5 @@ listed m s m′ l i full e r =
     }
 
 -- what is left to be written is blank
-pub rest-blank : {m m′ : List ℕ} {a b : ℕ} → Within m a b m′ → a ≤ b → Blank m a → Blank m′ b
+pub rest-blank : {m m′ : List ℕ} {a b : ℕ} → WritesWithin m a b m′ → a ≤ b → Blank m a → Blank m′ b
 rest-blank w l z i h = w .above i h ∙ z i (omega arith)

@@ -13,12 +13,12 @@ use Rattle.rules.specs.Table.{newDescription}
 use Rattle.rules.specs.Messages.{withDescription}
 use Rattle.device.specs.Layout.{describedAt}
 use Rattle.patch.specs.Makes.{Makes}
-use Rattle.imprint.specs.Fits.{Fits}
+use Rattle.imprint.specs.Fits.{FitsRoom}
 use Rattle.imprint.specs.Contract.{Imprinted}
 use Rattle.imprint.proofs.Valid.{declared-fits}
 
 -- Every valid description fits.
-pub fits : (own s : List ℕ) (x : Described) → describe own s ≡ gives x → Fits x
+pub fits : (own s : List ℕ) (x : Described) → describe own s ≡ gives x → FitsRoom x
 fits own s x e = declared-fits own x (declares own s x e)
 
 -- So what was read of a valid description, imprinted, makes it the device's.

@@ -10,7 +10,7 @@ use Rattle.properties.specs.Property.{Property}
 use Rattle.properties.specs.Valid.{Valid, In, here, later}
 use Rattle.description.specs.Description.{Described}
 use Rattle.description.specs.Declares.{Other, Declares}
-use Rattle.imprint.specs.Fits.{FitsId, FitsIdOrNone, FitsProperty, FitEach, Fits}
+use Rattle.imprint.specs.Fits.{FitsId, FitsIdOrNone, FitsProperty, FitEach, FitsRoom}
 
 id-fits : (t : List ℕ) → isId t ≡ true → FitsId t
 id-fits t e = let i = is-id t e in record { some = i .some; short = i .few }
@@ -26,7 +26,7 @@ each-fits : (ps : List Property) → ((p : Property) → In p ps → Valid p) �
 each-fits [] h = tt
 each-fits (p ∷ ps) h = (property-fits p (h p (here refl)), each-fits ps (λ q i. h q (later i)))
 
-pub declared-fits : (own : List ℕ) (x : Described) → Declares own x → Fits x
+pub declared-fits : (own : List ℕ) (x : Described) → Declares own x → FitsRoom x
 declared-fits own x d = record {
   root = optional-fits own (x .root) (d .root);
   parent = optional-fits own (x .parent) (d .parent);

@@ -9,9 +9,8 @@ use mathlib.Core.Option.{Option, some}
 use lib.ListN.{length, getD, drop, replicate, length-drop, length-replicate, getD-replicate, List·getD-eq-default}
 use lib.Seq.{getD-drop}
 use lib.IntN.{ℤ}
-use Rattle.trace.specs.Bytes.{u64}
+use Rattle.little_endian.specs.Bytes.{u64, put}
 use Rattle.numbers.specs.Whole.{stands}
-use Rattle.memory.specs.Bytes.{put}
 use Rattle.memory.specs.Layout.{roomSize}
 use Rattle.fields.specs.declared.Field.{Field}
 use Rattle.description.specs.declared.Description.{Description}
@@ -21,11 +20,12 @@ use Rattle.rules.specs.States.{stateAt}
 use Rattle.rules.specs.Table as table
 use Rattle.rules.specs.Table.{Property, emptyLanes, newDescription}
 use Rattle.rules.specs.Messages.{withDescription}
-use Rattle.device.specs.Layout.{idAt, idMost, stateCodeAt, timeAt, describedAt, rootAt, parentAt, versionAt, countAt, propertiesMost, recordsAt}
+use Rattle.text.specs.Ids.{idMost}
+use Rattle.device.specs.Layout.{idAt, stateCodeAt, timeAt, describedAt, rootAt, parentAt, versionAt, countAt, propertiesMost, recordsAt}
 use Rattle.device.specs.Decode.{isSet, optionalAt, countIn, propertiesIn, descriptionIn, deviceOf}
 use Rattle.patch.specs.Makes.{Makes}
 use Rattle.patch.proofs.Frame.{Alike, put-new, put-before, within, front, byte-alike, set-alike, num-alike, text-alike, optional-alike, description-alike}
-use Rattle.imprint.specs.Fits.{Fits}
+use Rattle.imprint.specs.Fits.{FitsRoom}
 use Rattle.imprint.specs.Contract.{Imprinted}
 use Rattle.imprint.specs.Parts.{Blank, Listed, Headed}
 use Rattle.imprint.proofs.Fields.{alike-below}
@@ -49,7 +49,7 @@ described : (r : List ℕ) (root parent : Option (List ℕ)) (version : ℕ) (z 
 unfolding descriptionIn
 described r root parent version z ps a b c d e f = rw (a, descriptionIn) (rw (b, c, d, e, f))
 
--- a room image, whose first 42 bytes do not matter
+-- a room image, whose bytes before the description do not matter
 module _ (image : List ℕ) (y : table.Description) (l : length image ≡ roomSize) (e : descriptionIn image ≡ some y) where
   pub image-makes : Makes describedAt (drop describedAt image) (withDescription (some y))
   unfolding deviceOf
@@ -75,7 +75,7 @@ module _ (m₀ m₁ m₂ s : List ℕ) (d : Description) (l : length m₀ ≡ ro
   long₂ : length m₂ ≡ roomSize
   long₂ = w₂ .within .kept ∙ long₁
 
-  module _ (x : Described) (h : Shows s d x) (f : Fits x) where
+  module _ (x : Described) (h : Shows s d x) (f : FitsRoom x) where
     counted : countIn m₂ ≡ min (d .properties .n) propertiesMost
     unfolding countIn
     counted = ap (λ (k : ℕ). min k propertiesMost) (w₂ .within .below countAt (omega arith)) ∙ w₁ .count

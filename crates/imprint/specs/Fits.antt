@@ -5,7 +5,8 @@ use mathlib.Core.Option.{Option, none, some}
 use lib.ListN.{length}
 use Rattle.properties.specs.Property.{Property}
 use Rattle.description.specs.Description.{Described}
-use Rattle.device.specs.Layout.{idMost, formatMost, propertiesMost}
+use Rattle.text.specs.Ids.{idMost}
+use Rattle.device.specs.Layout.{formatMost, propertiesMost}
 
 -- "An ID is 1 to 32 bytes"
 pub record FitsId (t : List ℕ) : Type 0 where
@@ -28,7 +29,7 @@ FitEach [] = Unit {0}
 FitEach (p ∷ ps) = FitsProperty p × FitEach ps
 
 -- "At most 24 properties in all."
-pub record Fits (x : Described) : Type 0 where
+pub record FitsRoom (x : Described) : Type 0 where
   pub root : FitsIdOrNone (x .root)
   pub parent : FitsIdOrNone (x .parent)
   pub each : FitEach (x .properties)

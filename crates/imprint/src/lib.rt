@@ -1,4 +1,18 @@
 // A description written into the image of a device's room: its head, and a record for each property, the lanes empty.
+use device::COUNT;
+use device::DATATYPE;
+use device::DESCRIBED;
+use device::FORMAT;
+use device::NODE;
+use device::PARENT;
+use device::PROPERTIES_MOST;
+use device::PROPERTY;
+use device::RECORD;
+use device::RECORDS;
+use device::RETAINED;
+use device::ROOT;
+use device::SETTABLE;
+use device::VERSION;
 use fields::Field;
 use memory::ROOM;
 use payload::Format;
@@ -11,36 +25,14 @@ ghost use Rattle.fields.specs.Fields.{textIn};
 ghost use Rattle.payload.specs.Formats.{keptBytes};
 ghost use Rattle.properties.specs.Property.{textOf};
 ghost use Rattle.memory.specs.Layout.{roomSize};
-ghost use Rattle.device.specs.Layout.{formatMost, recordsAt, recordSize};
+ghost use Rattle.device.specs.Layout.{formatAt, formatMost, recordsAt, recordSize};
 ghost use Rattle.imprint.specs.Contract.{Imprinted};
-ghost use Rattle.imprint.specs.Parts.{Texted, Numbered, Recorded, Listed, Family, Headed, Traits, Blank, flag};
+ghost use Rattle.imprint.specs.Parts.{Texted, Recorded, Listed, Family, Headed, Traits, Blank, flag};
 
-// The layout: see crate `device`, specs/Layout.antt.
-const ID_MOST: u8 = 32;
+// As bytes.
+const ID_MOST: u8 = text::Id::MAX as u8;
 
-const FORMAT_MOST: u8 = 64;
-
-const MOST: u8 = 24;
-
-const DESCRIBED: usize = 42;
-
-const ROOT: usize = 43;
-
-const PARENT: usize = 76;
-
-const VERSION: usize = 109;
-
-const COUNT: usize = 117;
-
-const RECORDS: usize = 512;
-
-const RECORD: usize = 320;
-
-const PROPERTY: usize = 33;
-
-const DATATYPE: usize = 66;
-
-const FORMAT: usize = 69;
+const FORMAT_MOST: u8 = device::FORMAT_MOST as u8;
 
 fn wide(x: u8) -> usize
     ensures { λ r. ⌜ (r ≡ x) × (r < 256) ⌝ }
@@ -66,20 +58,6 @@ fn put_text(room: &mut [u8], at: usize, t: &[u8], most: u8)
     while i < end {
         room[at + 1 + i] = t[i];
         i += 1;
-    }
-}
-
-// The 8 bytes of a number, the lowest first.
-fn put_number(room: &mut [u8], at: usize, x: u64)
-    requires { ⌜ at + 8 ≤ length (now room) ⌝ }
-    ensures { λ _. ⌜ Numbered (now (room .entry)) at x (now (room .exit)) ⌝ }
-{
-    let mut v = x;
-    let mut j: usize = 0;
-    while j < 8 {
-        room[at + j] = (v % 256) as u8;
-        v = v / 256;
-        j += 1;
     }
 }
 
@@ -114,14 +92,14 @@ fn flag_byte(b: bool) -> u8
     if b { 1 } else { 0 }
 }
 
-// The datatype's number, settable and retained.
+// The datatype's number, settable and retained, of the record at a place.
 fn put_traits(room: &mut [u8], at: usize, code: u8, settable: bool, retained: bool)
-    requires { ⌜ at + 3 ≤ length (now room) ⌝ }
+    requires { ⌜ at + formatAt ≤ length (now room) ⌝ }
     ensures { λ _. ⌜ Traits (now (room .entry)) at code (flag settable) (flag retained) (now (room .exit)) ⌝ }
 {
-    room[at] = code;
-    room[at + 1] = flag_byte(settable);
-    room[at + 2] = flag_byte(retained);
+    room[at + DATATYPE] = code;
+    room[at + SETTABLE] = flag_byte(settable);
+    room[at + RETAINED] = flag_byte(retained);
 }
 
 // The record of a property.
@@ -132,15 +110,9 @@ fn put_record(room: &mut [u8], at: usize, s: &[u8], e: Entry)
     let d = e.datatype;
     let f = e.format;
     let kept = e.kept;
-    put_text(room, at, fields::text_at(s, e.node), ID_MOST);
+    put_text(room, at + NODE, fields::text_at(s, e.node), ID_MOST);
     put_text(room, at + PROPERTY, fields::text_at(s, e.id), ID_MOST);
-    put_traits(
-        room,
-        at + DATATYPE,
-        payload::datatype_code(d),
-        e.settable,
-        e.retained,
-    );
+    put_traits(room, at, payload::datatype_code(d), e.settable, e.retained);
     put_format(room, at + FORMAT, text_in(s, f), kept);
 }
 
@@ -150,7 +122,7 @@ fn put_records(room: &mut [u8], s: &[u8], l: Entries)
     ensures { λ _. ⌜ Listed (now (room .entry)) (now (s .entry)) l (now (room .exit)) ⌝ }
 {
     let items = l.items;
-    let n = wide(least(l.n, MOST));
+    let n = wide(least(l.n, PROPERTIES_MOST));
     let mut i = 0;
     while i < n {
         let e = items[i];
@@ -174,8 +146,8 @@ fn put_head(room: &mut [u8], s: &[u8], root: Field, parent: Field, version: u64,
 {
     room[DESCRIBED] = 1;
     put_family(room, s, root, parent);
-    put_number(room, VERSION, version);
-    room[COUNT] = least(n, MOST);
+    little_endian::set(room, VERSION, 8, version);
+    room[COUNT] = least(n, PROPERTIES_MOST);
 }
 
 // The image of a room with the description d, which was read from s: its bytes from the description on are what a device's room gets.

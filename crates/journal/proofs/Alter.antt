@@ -5,15 +5,16 @@ use native.Mathlib.Decide.{decLt}
 use mathlib.Core.Path.{_≡_, sym, ap, _∙_}
 use mathlib.Core.List.{List, [], map}
 use lib.ListN.{length, getD, set}
-use Rattle.memory.specs.Bytes.{part, put, move}
+use Rattle.little_endian.specs.Bytes.{put}
+use Rattle.memory.specs.Bytes.{span, move}
 use Rattle.memory.specs.Layout.{roomSize, roomAt, headAt, headSize, orderAt, domainAt, domainLength, capacity, depth, count, slot}
-use Rattle.memory.specs.Sound.{Header, Fits, Sound}
+use Rattle.memory.specs.Sound.{Header, ChangeFits, Sound}
 use Rattle.memory.specs.State.{Change, order, room, current, entries, change}
 use Rattle.journal.specs.Contract.{AbleTo}
 use Rattle.journal.specs.Parts.{Over, Settled, Stays, Changed}
 use Rattle.memory.proofs.Lists.{map-move, map-set}
-use Rattle.memory.proofs.Flat.{Same, part-kept, part-is, length-part, getD-part, put-is}
-use Rattle.journal.proofs.Order.{once, orderly-same, orderly-moved}
+use Rattle.memory.proofs.Flat.{Same, span-kept, span-is, length-span, getD-span, put-is}
+use Rattle.journal.proofs.Order.{once, permutation-same, permutation-moved}
 use Rattle.memory.proofs.Read.{length-order, order-is, length-room, room-is}
 use Rattle.journal.proofs.Decode.{entries-kept}
 
@@ -22,7 +23,7 @@ module _ (m m₁ m₂ : List ℕ) (c : Change) (at : ℕ) (able : AbleTo m c) (e
   h : Header m
   h = able .header
 
-  f : Fits (capacity m) (c .from) (c .to) (getD (c .head) 0 0) (c .offset) (length (c .bytes))
+  f : ChangeFits (capacity m) (c .from) (c .to) (getD (c .head) 0 0) (c .offset) (length (c .bytes))
   f = able .fits
 
   k : ℕ
@@ -72,19 +73,19 @@ module _ (m m₁ m₂ : List ℕ) (c : Change) (at : ℕ) (able : AbleTo m c) (e
     header = omega (arith, h, f, kept, d, j, head₀, low 0 (omega arith), low 3 (omega arith), low 4 (omega arith), low 5 (omega arith));
     d = d;
     j = j;
-    domain = ap (part m₂ domainAt) (low 5 (omega arith)) ∙ part-kept m m₂ domainAt (domainLength m) kept (omega (arith, h)) (λ i x y. low i (omega (arith, h)));
+    domain = ap (span m₂ domainAt) (low 5 (omega arith)) ∙ span-kept m m₂ domainAt (domainLength m) kept (omega (arith, h)) (λ i x y. low i (omega (arith, h)));
     kept = kept;
     beyond = λ i l. top i (omega arith);
   }
 
   -- the order
-  was : part m₁ orderAt (capacity m) ≡ order m
+  was : span m₁ orderAt (capacity m) ≡ order m
   unfolding h order
-  was = part-kept m m₁ orderAt (capacity m) (w .kept) (omega (arith, h)) (λ i x y. w .below i (omega (arith, h)))
+  was = span-kept m m₁ orderAt (capacity m) (w .kept) (omega (arith, h)) (λ i x y. w .below i (omega (arith, h)))
 
   order-moved : order m₂ ≡ move 0 (c .from) (c .to) (order m)
   unfolding order
-  order-moved = ap (part m₂ orderAt) d ∙ v .moved ∙ ap (move 0 (c .from) (c .to)) was
+  order-moved = ap (span m₂ orderAt) d ∙ v .moved ∙ ap (move 0 (c .from) (c .to)) was
 
   a-inside : c .from < length (order m)
   unfolding h f
@@ -103,8 +104,8 @@ module _ (m m₁ m₂ : List ℕ) (c : Change) (at : ℕ) (able : AbleTo m c) (e
     unfolding h stays
     sound = record {
       header = stays .header;
-      orderly = orderly-same (length (order m)) (capacity m₂) (λ i. getD (move 0 (c .from) (c .to) (order m)) i 0) (slot m₂) (d ∙ sym (length-order m h))
-          (orderly-moved (order m) (c .from) (c .to) a-inside b-inside (orderly-same (capacity m) (length (order m)) (slot m) (λ i. getD (order m) i 0) (length-order m h) (s .orderly) (order-is m h)))
+      permuted = permutation-same (length (order m)) (capacity m₂) (λ i. getD (move 0 (c .from) (c .to) (order m)) i 0) (slot m₂) (d ∙ sym (length-order m h))
+          (permutation-moved (order m) (c .from) (c .to) a-inside b-inside (permutation-same (capacity m) (length (order m)) (slot m) (λ i. getD (order m) i 0) (length-order m h) (s .permuted) (order-is m h)))
           (λ i l. slots-moved i (omega (arith, length-order m h)));
     }
 
@@ -113,15 +114,15 @@ module _ (m m₁ m₂ : List ℕ) (c : Change) (at : ℕ) (able : AbleTo m c) (e
     unfolding h f k room
     room-put =
         let e : length (room m k) ≡ roomSize = length-room m h k there in
-        let e₂ : length (part m₂ (roomAt k) roomSize) ≡ roomSize = length-part m₂ (roomAt k) roomSize (omega (arith, h, kept, there)) in
-        put-is (part m (roomAt k) roomSize) (c .bytes) (c .offset) (omega (arith, f)) (part m₂ (roomAt k) roomSize) (e₂ ∙ sym e)
-        (λ i l. getD-part m₂ (roomAt k) roomSize i (omega (arith, f)) ∙ mid (roomAt k + i) (omega (arith, h)) (omega arith) ∙ sym (getD-part m (roomAt k) roomSize i (omega (arith, f))))
-        (λ i l. getD-part m₂ (roomAt k) roomSize (c .offset + i) (omega (arith, f)) ∙ ap (λ (x : ℕ). getD m₂ x 0) (omega arith) ∙ inside i l)
-        (λ i l x. getD-part m₂ (roomAt k) roomSize i (omega arith) ∙ high (roomAt k + i) (omega arith) ∙ sym (getD-part m (roomAt k) roomSize i (omega arith)))
+        let e₂ : length (span m₂ (roomAt k) roomSize) ≡ roomSize = length-span m₂ (roomAt k) roomSize (omega (arith, h, kept, there)) in
+        put-is (span m (roomAt k) roomSize) (c .bytes) (c .offset) (omega (arith, f)) (span m₂ (roomAt k) roomSize) (e₂ ∙ sym e)
+        (λ i l. getD-span m₂ (roomAt k) roomSize i (omega (arith, f)) ∙ mid (roomAt k + i) (omega (arith, h)) (omega arith) ∙ sym (getD-span m (roomAt k) roomSize i (omega (arith, f))))
+        (λ i l. getD-span m₂ (roomAt k) roomSize (c .offset + i) (omega (arith, f)) ∙ ap (λ (x : ℕ). getD m₂ x 0) (omega arith) ∙ inside i l)
+        (λ i l x. getD-span m₂ (roomAt k) roomSize i (omega arith) ∙ high (roomAt k + i) (omega arith) ∙ sym (getD-span m (roomAt k) roomSize i (omega arith)))
 
     room-else : (n : ℕ) → n < capacity m → (n ≡ k → ⊥) → room m₂ n ≡ room m n
     unfolding h f k room
-    room-else n l q = part-kept m m₂ (roomAt n) roomSize kept (omega (arith, h)) (λ i x y. elim (decLt n k) as (λ _. getD m₂ i 0 ≡ getD m i 0) [
+    room-else n l q = span-kept m m₂ (roomAt n) roomSize kept (omega (arith, h)) (λ i x y. elim (decLt n k) as (λ _. getD m₂ i 0 ≡ getD m i 0) [
       | yes b ↦ mid i (omega (arith, h)) (omega arith)
       | no b ↦ high i (omega (arith, f))
     ])
@@ -132,12 +133,12 @@ module _ (m m₁ m₂ : List ℕ) (c : Change) (at : ℕ) (able : AbleTo m c) (e
         (λ _. ap (room m₂) (order-is m h (c .from) (f .starts)) ∙ room-put)
         (λ i l n.
         let l′ : i < capacity m = omega (arith, length-order m h) in
-        ap (room m₂) (order-is m h i l′) ∙ room-else (slot m i) (s .orderly .slots i l′) (λ e. n (once (capacity m) (slot m) (s .orderly) i (c .from) l′ (f .starts) e)) ∙ ap (room m) (sym (order-is m h i l′)))
+        ap (room m₂) (order-is m h i l′) ∙ room-else (slot m i) (s .permuted .slots i l′) (λ e. n (once (capacity m) (slot m) (s .permuted) i (c .from) l′ (f .starts) e)) ∙ ap (room m) (sym (order-is m h i l′)))
 
     pub moved : current m₂ ≡ change c (current m)
     unfolding current h f k
     moved = λ i. record {
-      head = part-is m₂ (c .head) headAt headSize (omega (arith, h, kept)) (v .whole) (v .replaced) i;
+      head = span-is m₂ (c .head) headAt headSize (omega (arith, h, kept)) (v .whole) (v .replaced) i;
       rooms = (ap (map (room m₂)) order-moved ∙ map-move (room m₂) 0 [] (c .from) (c .to) (order m) a-inside ∙ ap (move [] (c .from) (c .to)) (rooms-put
           ∙ ap (λ (x : List ℕ). set (map (room m) (order m)) (c .from) (put x (c .offset) (c .bytes))) (sym (room-is m h (c .from) (f .starts))))) i;
     }

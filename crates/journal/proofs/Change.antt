@@ -5,16 +5,12 @@ use mathlib.Core.Path.{_≡_, refl, ap, _∙_}
 use mathlib.Core.List.{List, [], _∷_}
 use lib.ListN.{length, getD, set, take, length-set}
 use lib.Seq.{set-set, set-getD, getD-set-same}
-use Rattle.memory.specs.Bytes.{part, put, move}
+use Rattle.little_endian.specs.Bytes.{put}
+use Rattle.memory.specs.Bytes.{span, move}
 use Rattle.memory.specs.State.{Now, Change, roomOf, change, inverse, pasts}
 use Rattle.memory.proofs.Lists.{getD-moved, move-back, move-set}
 use Rattle.memory.proofs.Flat.{put-back}
-
--- a change that a state can take
-pub record Right (s : Now) (c : Change) : Type 0 where
-  pub starts : c .from < length (s .rooms)
-  pub ends : c .to < length (s .rooms)
-  pub inside : c .offset + length (c .bytes) ≤ length (roomOf s (c .from))
+use Rattle.journal.specs.Contract.{Right}
 
 module _ (s : Now) (c : Change) (r : Right s c) where
   abbrev old : List ℕ
@@ -24,7 +20,7 @@ module _ (s : Now) (c : Change) (r : Right s c) where
   new = put old (c .offset) (c .bytes)
 
   abbrev saved : List ℕ
-  saved = part old (c .offset) (length (c .bytes))
+  saved = span old (c .offset) (length (c .bytes))
 
   abbrev written : List (List ℕ)
   written = set (s .rooms) (c .from) new

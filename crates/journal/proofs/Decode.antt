@@ -1,17 +1,18 @@
 -- What memory decodes to, after bytes changed: the rooms, an entry, the entries.
-use Prim.Native.Nat.{ℕ, suc, _+_, _-_, _*_, _<_, min}
+use Prim.Native.Nat.{ℕ, suc, _+_, _-_, _≤_, _<_, min}
 use native.Mathlib.Omega.{arith}
 use mathlib.Core.Path.{_≡_, sym, ap, ap₂, _∙_}
 use mathlib.Core.List.{List, _∷_, map}
 use lib.ListN.{length, getD, set, take}
-use Rattle.memory.specs.Bytes.{tab, part}
-use Rattle.memory.specs.Layout.{roomSize, roomAt, imageAt, entryAt, headAt, headSize, orderAt, capacity, depth, next, steps, size, slot, two, offsetOf, lengthOf, headOf}
+use Rattle.little_endian.specs.Bytes.{u16}
+use Rattle.memory.specs.Bytes.{tab, span}
+use Rattle.memory.specs.Layout.{roomSize, roomAt, imageAt, entryAt, headAt, headSize, orderAt, capacity, depth, next, steps, size, slot, offsetOf, lengthOf, headOf}
 use Rattle.memory.specs.Sound.{Header, Sound}
 use Rattle.memory.specs.State.{Change, order, room, current, entry, entries, place}
 use Rattle.journal.specs.Parts.{turn}
 use Rattle.memory.proofs.Lists.{map-same, tab-ext, tab-cons, tab-pushed}
 use Rattle.memory.proofs.Read.{length-order, order-is}
-use Rattle.memory.proofs.Flat.{Same, part-kept}
+use Rattle.memory.proofs.Flat.{Same, span-kept, num-kept}
 use Rattle.journal.proofs.Places.{place-below, place-here, place-next, place-apart, place-back}
 
 -- an entry that is where it was
@@ -23,33 +24,33 @@ module _ (m m′ : List ℕ) (h : Header m) (len : length m′ ≡ length m) (d 
         from = ap₂ (λ (x y : ℕ). min x (y - 1)) (s (entryAt p) (omega arith) (omega arith)) d i;
         to = ap₂ (λ (x y : ℕ). min x (y - 1)) (s (entryAt p + 1) (omega arith) (omega arith)) d i;
         offset = off i;
-        bytes = (ap₂ (λ (x y : ℕ). part m′ (imageAt x p) y) d long ∙ part-kept m m′ (imageAt (capacity m) p) (lengthOf m p) len (omega (arith, h)) (λ k x y. t k x (omega arith))) i;
-        head = ap₂ (λ (x : List ℕ) (y : ℕ). set x 0 y) (part-kept m m′ (headOf p) headSize len (omega (arith, h)) (λ k x y. s k (omega arith) (omega arith)))
+        bytes = (ap₂ (λ (x y : ℕ). span m′ (imageAt x p) y) d long ∙ span-kept m m′ (imageAt (capacity m) p) (lengthOf m p) len (omega (arith, h)) (λ k x y. t k x (omega arith))) i;
+        head = ap₂ (λ (x : List ℕ) (y : ℕ). set x 0 y) (span-kept m m′ (headOf p) headSize len (omega (arith, h)) (λ k x y. s k (omega arith) (omega arith)))
             (ap₂ min (s (headOf p) (omega arith) (omega arith)) d) i;
       })
     where
-      off : offsetOf m′ p ≡ offsetOf m p
-      off = ap₂ (λ (x y : ℕ). min (x + 256 * y) roomSize) (s (entryAt p + 2) (omega arith) (omega arith)) (s (entryAt p + 2 + 1) (omega arith) (omega arith))
+      number : (k : ℕ) → k + 2 ≤ 32 → u16 m′ (entryAt p + k) ≡ u16 m (entryAt p + k)
+      number k l = num-kept m m′ (entryAt p + k) 2 len (omega (arith, h)) (λ i x y. s i (omega arith) (omega arith))
 
-      raw : two m′ (entryAt p + 4) ≡ two m (entryAt p + 4)
-      raw = ap₂ (λ (x y : ℕ). x + 256 * y) (s (entryAt p + 4) (omega arith) (omega arith)) (s (entryAt p + 4 + 1) (omega arith) (omega arith))
+      off : offsetOf m′ p ≡ offsetOf m p
+      off = ap (λ (x : ℕ). min x roomSize) (number 2 (omega arith))
 
       long : lengthOf m′ p ≡ lengthOf m p
-      long = ap₂ (λ (x y : ℕ). min x (roomSize - y)) raw off
+      long = ap₂ (λ (x y : ℕ). min x (roomSize - y)) (number 4 (omega arith)) off
 
   -- the state, where its bytes are as they were
   pub current-kept : Same m m′ headAt (orderAt + capacity m) → Same m m′ roomSize (roomAt (capacity m)) → ((i : ℕ) → i < capacity m → slot m i < capacity m) → current m′ ≡ current m
   unfolding current order room
   current-kept s t below = λ i. record {
-    head = part-kept m m′ headAt headSize len (omega (arith, h)) (λ k x y. s k x (omega arith)) i;
-    rooms = (ap (map (room m′)) (ap (part m′ orderAt) d ∙ part-kept m m′ orderAt (capacity m) len (omega (arith, h)) (λ k x y. s k (omega arith) y))
+    head = span-kept m m′ headAt headSize len (omega (arith, h)) (λ k x y. s k x (omega arith)) i;
+    rooms = (ap (map (room m′)) (ap (span m′ orderAt) d ∙ span-kept m m′ orderAt (capacity m) len (omega (arith, h)) (λ k x y. s k (omega arith) y))
         ∙ map-same (room m) (room m′) (order m) 0 (λ k l. room-kept k (omega (arith, length-order m h)))) i;
   }
     where
       room-kept : (k : ℕ) → k < capacity m → room m′ (getD (order m) k 0) ≡ room m (getD (order m) k 0)
       room-kept k l =
           let b : getD (order m) k 0 < capacity m = omega (arith, order-is m h k l, below k l) in
-          part-kept m m′ (roomAt (getD (order m) k 0)) roomSize len (omega (arith, h)) (λ i x y. t i (omega arith) (omega arith))
+          span-kept m m′ (roomAt (getD (order m) k 0)) roomSize len (omega (arith, h)) (λ i x y. t i (omega arith) (omega arith))
 
 -- the entries of the ring
 module _ (m m′ : List ℕ) (len : length m′ ≡ length m) (d : capacity m′ ≡ capacity m) (j : depth m′ ≡ depth m) (ok : Sound m) where

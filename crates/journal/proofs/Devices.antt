@@ -1,12 +1,14 @@
 -- The rooms of the devices after a change: one written, one more, one less, none touched.
 use Prim.Native.Nat.{ℕ, zero, suc, _≤_, _<_, zero-le, suc-le-suc}
-use native.Mathlib.Nat.{not-suc-le-zero, le-of-suc-le-suc}
+use native.Mathlib.Nat.{not-suc-le-zero, le-of-suc-le-suc, zero-add}
 use native.Mathlib.Omega.{arith}
 use mathlib.Core.Path.{_≡_, refl, sym, ap, ap₂, _∙_}
 use mathlib.Core.List.{List, [], _∷_, _++_}
-use lib.ListN.{length, getD, set, take, drop, length-set, take-append-drop}
+use lib.ListN.{length, getD, set, take, drop, length-set}
 use lib.Seq.{take-set-lt, getD-set-same, set-getD, drop-length}
-use Rattle.memory.specs.Bytes.{put, removeAt, insertAt, move}
+use Rattle.little_endian.specs.Bytes.{put}
+use Rattle.little_endian.proofs.Put.{put-none}
+use Rattle.memory.specs.Bytes.{removeAt, insertAt, move}
 use Rattle.memory.specs.State.{Now, Change, roomOf, change, number, devices}
 use Rattle.memory.proofs.Lists.{insert-removed, remove-set}
 
@@ -48,14 +50,10 @@ module _ {A : Type 0} where
   length-remove zero (x ∷ l) = omega arith
   length-remove (suc k) (x ∷ l) = suc-le-suc (length-remove k l)
 
-put-none : (r : List ℕ) (a : ℕ) → put r a [] ≡ r
-unfolding put
-put-none r a = take-append-drop a r
-
 -- a whole room put over a room
 pub put-whole : (r bs : List ℕ) → length bs ≡ length r → put r 0 bs ≡ bs
 unfolding put
-put-whole r bs e = ap (λ (n : ℕ). bs ++ drop n r) e ∙ ap (λ (t : List ℕ). bs ++ t) (drop-length r) ∙ append-nil bs
+put-whole r bs e = ap (λ (n : ℕ). bs ++ drop n r) (zero-add (length bs) ∙ e) ∙ ap (λ (t : List ℕ). bs ++ t) (drop-length r) ∙ append-nil bs
   where
     append-nil : (l : List ℕ) → l ++ [] ≡ l
     append-nil [] = refl
@@ -101,4 +99,4 @@ module _ (s : Now) (c : Change) (inside : number s ≤ length (s .rooms)) where
   pub untouched : c .to ≡ c .from → number (change c s) ≡ number s → c .bytes ≡ [] → c .from < length (s .rooms) → devices (change c s) ≡ devices s
   untouched et en eb h =
       ap₂ (λ (n b : ℕ). take n (move [] (c .from) b written)) en et
-      ∙ ap (take (number s)) (move-same [] (c .from) written (omega (arith, size)) ∙ ap (set (s .rooms) (c .from)) (ap (put (roomOf s (c .from)) (c .offset)) eb ∙ put-none (roomOf s (c .from)) (c .offset)) ∙ set-getD (s .rooms) (c .from) [])
+      ∙ ap (take (number s)) (move-same [] (c .from) written (omega (arith, size)) ∙ ap (set (s .rooms) (c .from)) (ap (put (roomOf s (c .from)) (c .offset)) eb ∙ sym (put-none (roomOf s (c .from)) (c .offset))) ∙ set-getD (s .rooms) (c .from) [])

@@ -7,14 +7,14 @@ use mathlib.Core.List.{List}
 use lib.ListN.{length, getD, set, replicate, length-set, getD-replicate}
 use lib.Dec.{leb}
 use borrow.Author.Tests.{leb-true}
-use Rattle.memory.specs.Bytes.{part}
+use Rattle.memory.specs.Bytes.{span}
 use Rattle.memory.specs.Layout.{roomSize, most, domainAt, domainLength, headAt, headSize, orderAt, imageAt, capacity, depth}
 use Rattle.memory.specs.Sound.{Header, Sound}
 use Rattle.memory.specs.State.{state, current}
 use Rattle.journal.specs.Contract.{opens, fresh, Opened}
 use Rattle.journal.specs.Parts.{Over, Opens, Marked, Laid}
 use Rattle.memory.proofs.Judge.{ft, tf}
-use Rattle.memory.proofs.Flat.{set-same, set-other, part-is, drop-same}
+use Rattle.memory.proofs.Flat.{set-same, set-other, span-is, drop-same}
 use Rattle.journal.proofs.Whole.{past-none}
 
 -- the test and its facts
@@ -112,17 +112,17 @@ module _ (m domain m′ : List ℕ) (d j : ℕ) (o : Opens (length domain) d j (
   unfolding header
   sound = record {
     header = header;
-    orderly = record {
+    permuted = record {
       slots = λ i h. omega (arith, o, l .capacity-is, l .order i (omega (arith, o, l .capacity-is)));
       apart = λ i k q h e. omega (arith, l .order i (omega (arith, o, l .capacity-is)), l .order k (omega (arith, o, l .capacity-is)));
     };
   }
 
-  domain-is : part m′ domainAt (domainLength m′) ≡ domain
-  domain-is = ap (part m′ domainAt) (l .length-is) ∙ part-is m′ domain domainAt (length domain) (omega (arith, o, l .kept)) refl (l .named)
+  domain-is : span m′ domainAt (domainLength m′) ≡ domain
+  domain-is = ap (span m′ domainAt) (l .length-is) ∙ span-is m′ domain domainAt (length domain) (omega (arith, o, l .kept)) refl (l .named)
 
-  head-is : part m′ headAt headSize ≡ replicate headSize 0
-  head-is = part-is m′ (replicate headSize 0) headAt headSize (omega (arith, o, l .kept)) refl (λ i h. l .head i h ∙ sym (getD-replicate headSize i 0 0 h))
+  head-is : span m′ headAt headSize ≡ replicate headSize 0
+  head-is = span-is m′ (replicate headSize 0) headAt headSize (omega (arith, o, l .kept)) refl (λ i h. l .head i h ∙ sym (getD-replicate headSize i 0 0 h))
 
   state-is : state m′ ≡ fresh domain d j (state m′ .now .rooms)
   unfolding state current

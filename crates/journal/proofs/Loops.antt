@@ -6,9 +6,9 @@ use mathlib.Core.Path.{_≡_, refl, sym, ap, _∙_}
 use mathlib.Core.Logic.{_⊎_, ⊎-elim}
 use mathlib.Core.List.{List}
 use lib.ListN.{length, getD, set, length-set}
-use Rattle.memory.specs.Bytes.{part}
+use Rattle.memory.specs.Bytes.{span}
 use Rattle.journal.specs.Parts.{Over}
-use Rattle.memory.proofs.Flat.{set-same, set-other, part-is}
+use Rattle.memory.proofs.Flat.{set-same, set-other, span-is}
 
 pub over-none : (m : List ℕ) (f : ℕ → ℕ) (to : ℕ) → Over m f to 0 m
 over-none m f to = record { kept = refl; inside = λ i h. absurd (omega arith); below = λ i h. refl; above = λ i h. refl }
@@ -38,5 +38,5 @@ over-all m m₁ f to i n a b c = record {
 }
 
 -- a list that is a part of another now
-pub over-part : (m z l : List ℕ) (a i n : ℕ) → n ≤ i → length z ≡ n → a + n ≤ length m → Over z (λ k. getD m (a + k) 0) 0 i l → l ≡ part m a n
-over-part m z l a i n h e q c = sym (part-is m l a n q (c .kept ∙ e) (λ k x. sym (ap (λ (t : ℕ). getD l t 0) (omega arith) ∙ c .inside k (omega arith))))
+pub over-span : (m z l : List ℕ) (a i n : ℕ) → n ≤ i → length z ≡ n → a + n ≤ length m → Over z (λ k. getD m (a + k) 0) 0 i l → l ≡ span m a n
+over-span m z l a i n h e q c = sym (span-is m l a n q (c .kept ∙ e) (λ k x. sym (ap (λ (t : ℕ). getD l t 0) (omega arith) ∙ c .inside k (omega arith))))

@@ -6,11 +6,11 @@ use mathlib.Core.Path.{_≡_, sym, ap, _∙_}
 use mathlib.Core.List.{List}
 use lib.ListN.{length, getD}
 use Rattle.memory.specs.Bytes.{removeAt, insertAt, move}
-use Rattle.memory.specs.Sound.{Orderly}
+use Rattle.memory.specs.Sound.{Permutation}
 use Rattle.memory.proofs.Lists.{same?, length-removeAt, getD-inserted, getD-insert-below, getD-insert-above, getD-remove-below, getD-remove-above}
 
 -- each slot once
-pub once : (d : ℕ) (o : ℕ → ℕ) → Orderly d o → (i k : ℕ) → i < d → k < d → o i ≡ o k → i ≡ k
+pub once : (d : ℕ) (o : ℕ → ℕ) → Permutation d o → (i k : ℕ) → i < d → k < d → o i ≡ o k → i ≡ k
 once d o q i k x y e = elim (same? i k) as (λ _. i ≡ k) [
   | yes h ↦ h
   | no h ↦ elim (decLt i k) as (λ _. i ≡ k) [
@@ -19,8 +19,8 @@ once d o q i k x y e = elim (same? i k) as (λ _. i ≡ k) [
   ]
 ]
 
-pub orderly-same : (d d′ : ℕ) (o o′ : ℕ → ℕ) → d′ ≡ d → Orderly d o → ((i : ℕ) → i < d → o′ i ≡ o i) → Orderly d′ o′
-orderly-same d d′ o o′ ed q e = record {
+pub permutation-same : (d d′ : ℕ) (o o′ : ℕ → ℕ) → d′ ≡ d → Permutation d o → ((i : ℕ) → i < d → o′ i ≡ o i) → Permutation d′ o′
+permutation-same d d′ o o′ ed q e = record {
   slots = λ i h. omega (arith, q .slots i (omega arith), e i (omega arith));
   apart = λ i k l h w. q .apart i k l (omega arith) (sym (e i (omega arith)) ∙ w ∙ e k (omega arith));
 }
@@ -106,8 +106,8 @@ module _ (l : List ℕ) (a b : ℕ) (ha : a < length l) (hb : b < length l) wher
   differ i k x y s t q (high-high p e h g v) (high-high p′ e′ h′ k′ v′) z = omega arith
 
   -- THE law: an order with an element moved is an order
-  pub orderly-moved : Orderly (length l) (λ i. getD l i 0) → Orderly (length l) (λ i. getD (move 0 a b l) i 0)
-  orderly-moved o = record {
+  pub permutation-moved : Permutation (length l) (λ i. getD l i 0) → Permutation (length l) (λ i. getD (move 0 a b l) i 0)
+  permutation-moved o = record {
     slots = λ i h. (let s = source i in omega (arith, value i _ (s .at) (s .way), o .slots (s .at) (below i _ (s .at) h (s .way))));
     apart = λ i k q h e.
         let s = source i in

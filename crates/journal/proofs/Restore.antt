@@ -4,15 +4,16 @@ use native.Mathlib.Omega.{arith}
 use mathlib.Core.Path.{_≡_, refl, sym, ap, ap₂, _∙_, subst}
 use mathlib.Core.List.{List, _∷_}
 use lib.ListN.{length, getD, set, length-set}
-use Rattle.memory.specs.Bytes.{part}
-use Rattle.memory.specs.Layout.{roomSize, roomAt, imageAt, entryAt, headSize, headOf, orderAt, domainAt, domainLength, capacity, depth, next, steps, size, slot, two, fromOf, toOf, offsetOf, lengthOf, countOf}
+use Rattle.little_endian.specs.Bytes.{u16}
+use Rattle.memory.specs.Bytes.{span}
+use Rattle.memory.specs.Layout.{roomSize, roomAt, imageAt, entryAt, headSize, headOf, orderAt, domainAt, domainLength, capacity, depth, next, steps, size, slot, fromOf, toOf, offsetOf, lengthOf, countOf}
 use Rattle.memory.specs.Sound.{Header, Sound, Able}
 use Rattle.memory.specs.State.{Change, change, current, entry, entries, place}
 use Rattle.journal.specs.Contract.{AbleTo}
 use Rattle.journal.specs.Parts.{Over, Settled, Stays, Changed, Restored, Ready}
-use Rattle.memory.proofs.Flat.{Same, set-same, set-other, part-kept, length-part, getD-part}
+use Rattle.memory.proofs.Flat.{Same, set-same, set-other, span-kept, length-span, getD-span}
 use Rattle.memory.proofs.Read.{fitting}
-use Rattle.journal.proofs.Order.{orderly-same}
+use Rattle.journal.proofs.Order.{permutation-same}
 use Rattle.journal.proofs.Places.{place-below}
 use Rattle.journal.proofs.Decode.{entry-kept, current-kept, entries-popped}
 use Rattle.journal.proofs.Alter.{changed}
@@ -26,7 +27,7 @@ pub record Raw (m : List ℕ) (from to offset len : ℕ) : Type 0 where
   pub there : slot m from < capacity m
 
 pub raw : (m : List ℕ) (p a from to offset len : ℕ) → a ≡ entryAt p → Header m → Ready m p → from ≡ min (getD m a 0) (capacity m - 1) → to ≡ min (getD m (a + 1) 0) (capacity m - 1)
-    → offset ≡ min (two m (a + 2)) roomSize → len ≡ min (two m (a + 4)) (roomSize - offset) → Raw m from to offset len
+    → offset ≡ min (u16 m (a + 2)) roomSize → len ≡ min (u16 m (a + 4)) (roomSize - offset) → Raw m from to offset len
 raw m p a from to offset len e h r ef et eo el = record {
   starts = omega (arith, h);
   ends = omega (arith, h);
@@ -40,11 +41,11 @@ module _ (m : List ℕ) (p : ℕ) (h : Header m) (q : p < depth m) (r : Ready m 
 
   length-bytes : length (entry m p .bytes) ≡ lengthOf m p
   unfolding entry
-  length-bytes = length-part m (imageAt (capacity m) p) (lengthOf m p) image-inside
+  length-bytes = length-span m (imageAt (capacity m) p) (lengthOf m p) image-inside
 
   count-head : getD (entry m p .head) 0 0 ≡ countOf m p
   unfolding entry
-  count-head = set-same (part m (headOf p) headSize) 0 (countOf m p) (omega (arith, length-part m (headOf p) headSize (omega (arith, h))))
+  count-head = set-same (span m (headOf p) headSize) 0 (countOf m p) (omega (arith, length-span m (headOf p) headSize (omega (arith, h))))
 
   able : AbleTo m (entry m p)
   unfolding entry
@@ -52,8 +53,8 @@ module _ (m : List ℕ) (p : ℕ) (h : Header m) (q : p < depth m) (r : Ready m 
 
   -- the old bytes are copied back, then the head and the order
   module _ (m₁ m₂ head : List ℕ) (a at image len offset from to : ℕ) (e : a ≡ entryAt p) (rf : from ≡ min (getD m a 0) (capacity m - 1)) (rt : to ≡ min (getD m (a + 1) 0) (capacity m - 1))
-      (ro : offset ≡ min (two m (a + 2)) roomSize) (rl : len ≡ min (two m (a + 4)) (roomSize - offset))
-      (rh : head ≡ set (part m (a + 8) headSize) 0 (min (getD m (a + 8) 0) (capacity m))) (ei : image ≡ imageAt (capacity m) p) (ea : at ≡ roomAt (slot m from) + offset)
+      (ro : offset ≡ min (u16 m (a + 2)) roomSize) (rl : len ≡ min (u16 m (a + 4)) (roomSize - offset))
+      (rh : head ≡ set (span m (a + 8) headSize) 0 (min (getD m (a + 8) 0) (capacity m))) (ei : image ≡ imageAt (capacity m) p) (ea : at ≡ roomAt (slot m from) + offset)
       (c : Over m (λ i. getD m (image + i) 0) at len m₁) (v : Settled m₁ head (capacity m₁) from to m₂) where
     ef : from ≡ fromOf m p
     ef = rf ∙ ap (λ (x : ℕ). min (getD m x 0) (capacity m - 1)) e
@@ -62,13 +63,13 @@ module _ (m : List ℕ) (p : ℕ) (h : Header m) (q : p < depth m) (r : Ready m 
     et = rt ∙ ap (λ (x : ℕ). min (getD m (x + 1) 0) (capacity m - 1)) e
 
     eo : offset ≡ offsetOf m p
-    eo = ro ∙ ap (λ (x : ℕ). min (two m (x + 2)) roomSize) e
+    eo = ro ∙ ap (λ (x : ℕ). min (u16 m (x + 2)) roomSize) e
 
     el : len ≡ lengthOf m p
-    el = rl ∙ ap₂ (λ (x y : ℕ). min (two m (x + 4)) (roomSize - y)) e eo
+    el = rl ∙ ap₂ (λ (x y : ℕ). min (u16 m (x + 4)) (roomSize - y)) e eo
 
-    eh : head ≡ set (part m (headOf p) headSize) 0 (countOf m p)
-    eh = rh ∙ ap (λ (x : ℕ). set (part m (x + 8) headSize) 0 (min (getD m (x + 8) 0) (capacity m))) e
+    eh : head ≡ set (span m (headOf p) headSize) 0 (countOf m p)
+    eh = rh ∙ ap (λ (x : ℕ). set (span m (x + 8) headSize) 0 (min (getD m (x + 8) 0) (capacity m))) e
 
     d₁ : capacity m₁ ≡ capacity m
     d₁ = c .below 1 (omega arith)
@@ -80,7 +81,7 @@ module _ (m : List ℕ) (p : ℕ) (h : Header m) (q : p < depth m) (r : Ready m 
     unfolding entry
     byte i l =
         let l′ : i < lengthOf m p = omega (arith, length-bytes) in
-        c .inside i (omega (arith, el)) ∙ ap (λ (x : ℕ). getD m (x + i) 0) ei ∙ sym (getD-part m (imageAt (capacity m) p) (lengthOf m p) i l′)
+        c .inside i (omega (arith, el)) ∙ ap (λ (x : ℕ). getD m (x + i) 0) ei ∙ sym (getD-span m (imageAt (capacity m) p) (lengthOf m p) i l′)
 
     bytes : Over m (λ i. getD (entry m p .bytes) i 0) at (length (entry m p .bytes)) m₁
     bytes = record {
@@ -141,7 +142,7 @@ module _ (m : List ℕ) (p n : ℕ) (h : Header m) (z : 0 < steps m) (ep : p ≡
     header = omega (arith, h, kept, d, j, next-is, steps-is, p-below, en, else 0 (λ q. omega arith) (λ q. omega arith), else 5 (λ q. omega arith) (λ q. omega arith), else 40 (λ q. omega arith) (λ q. omega arith));
     d = d;
     j = j;
-    domain = ap (part P domainAt) (else 5 (λ q. omega arith) (λ q. omega arith)) ∙ part-kept m P domainAt (domainLength m) kept (omega (arith, h)) (from5 domainAt (domainAt + domainLength m) (omega arith));
+    domain = ap (span P domainAt) (else 5 (λ q. omega arith) (λ q. omega arith)) ∙ span-kept m P domainAt (domainLength m) kept (omega (arith, h)) (from5 domainAt (domainAt + domainLength m) (omega arith));
     kept = kept;
     beyond = λ i l. else i (λ q. omega arith) (λ q. omega arith);
   }
@@ -157,11 +158,11 @@ module _ (m : List ℕ) (p n : ℕ) (h : Header m) (z : 0 < steps m) (ep : p ≡
   unfolding p-stays
   p-sound s = record {
     header = p-stays .header;
-    orderly = orderly-same (capacity m) (capacity P) (slot m) (slot P) d (s .orderly) (λ i l. else (orderAt + i) (λ q. omega arith) (λ q. omega arith));
+    permuted = permutation-same (capacity m) (capacity P) (slot m) (slot P) d (s .permuted) (λ i l. else (orderAt + i) (λ q. omega arith) (λ q. omega arith));
   }
 
   p-same : Sound m → current P ≡ current m
-  p-same s = current-kept m P h kept d (from5 40 (orderAt + capacity m) (omega arith)) (from5 roomSize (roomAt (capacity m)) (omega arith)) (s .orderly .slots)
+  p-same s = current-kept m P h kept d (from5 40 (orderAt + capacity m) (omega arith)) (from5 roomSize (roomAt (capacity m)) (omega arith)) (s .permuted .slots)
 
   p-entry : entry P p ≡ entry m p
   p-entry = entry-kept m P h kept d p p p-below refl (from5 (entryAt p) (entryAt p + 32) (omega arith)) (from5 (imageAt (capacity m) p) (imageAt (capacity m) p + roomSize) (omega arith))

@@ -6,13 +6,14 @@ use mathlib.Core.Path.{_≡_, refl, sym, ap, ap₂, _∙_}
 use mathlib.Core.List.{List, _∷_}
 use lib.ListN.{length, getD, set, take, length-set}
 use lib.Seq.{set-getD}
-use Rattle.memory.specs.Bytes.{part, tab}
+use Rattle.little_endian.specs.Bytes.{u16}
+use Rattle.memory.specs.Bytes.{span, tab}
 use Rattle.memory.specs.Layout.{roomSize, roomAt, imageAt, entryAt, headAt, headSize, headOf, orderAt, domainAt, domainLength, capacity, depth, next, steps, slot, fromOf, toOf, offsetOf, lengthOf, countOf}
 use Rattle.memory.specs.Sound.{Header, Sound, Able}
 use Rattle.memory.specs.State.{Change, entry, entries, place}
 use Rattle.journal.specs.Parts.{Over, Noted, Stays, Saved, turn, saving}
-use Rattle.memory.proofs.Flat.{Same, set-same, set-other, part-kept, part-same, getD-part}
-use Rattle.journal.proofs.Order.{orderly-same}
+use Rattle.memory.proofs.Flat.{Same, set-same, set-other, span-kept, span-same, num-same, getD-span}
+use Rattle.journal.proofs.Order.{permutation-same}
 use Rattle.journal.proofs.Places.{turn-below}
 use Rattle.journal.proofs.Decode.{current-kept, entries-pushed}
 
@@ -96,7 +97,7 @@ module _ (m m₁ m₂ : List ℕ) (from to offset len at image e h n : ℕ) (abl
     header = omega (arith, H, kept, d, j, next-is, steps-is, eh, en, turn-below (next m) (depth m) (omega (arith, H)), low 0 (omega arith) (λ q. omega arith) (λ q. omega arith), below 5 (omega arith) (omega arith), below 40 (omega arith) (omega arith));
     d = d;
     j = j;
-    domain = ap (part P domainAt) (below 5 (omega arith) (omega arith)) ∙ part-kept m P domainAt (domainLength m) kept (omega (arith, H)) (λ i x y. below i (omega arith) (omega (arith, H)));
+    domain = ap (span P domainAt) (below 5 (omega arith) (omega arith)) ∙ span-kept m P domainAt (domainLength m) kept (omega (arith, H)) (λ i x y. below i (omega arith) (omega (arith, H)));
     kept = kept;
     beyond = λ i l. high i (omega (arith, H));
   }
@@ -114,14 +115,15 @@ module _ (m m₁ m₂ : List ℕ) (from to offset len at image e h n : ℕ) (abl
   to-is : toOf P (next m) ≡ from
   to-is = omega (arith, entry-byte 1 (omega arith), w .ends, d, able .fits)
 
-  pair-is : (a : ℕ) → a < 30 → getD P (entryAt (next m) + a) 0 + 256 * getD P (entryAt (next m) + a + 1) 0 ≡ getD m₂ (e + a) 0 + 256 * getD m₂ (e + a + 1) 0
-  pair-is a x = ap₂ (λ (p q : ℕ). p + 256 * q) (entry-byte a (omega arith)) (ap (λ (y : ℕ). getD P y 0) (omega arith) ∙ entry-byte (a + 1) (omega arith) ∙ ap (λ (y : ℕ). getD m₂ y 0) (omega arith))
+  number-is : (a : ℕ) → a + 2 ≤ 32 → u16 P (entryAt (next m) + a) ≡ u16 m₂ (e + a)
+  number-is a x = num-same m₂ P (e + a) (entryAt (next m) + a) 2 (omega (arith, H)) (omega (arith, H, kept))
+      (λ i l. ap (λ (y : ℕ). getD P y 0) (omega arith) ∙ entry-byte (a + i) (omega arith) ∙ ap (λ (y : ℕ). getD m₂ y 0) (omega arith))
 
   offset-is : offsetOf P (next m) ≡ offset
-  offset-is = omega (arith, pair-is 2 (omega arith), w .first, len-small)
+  offset-is = omega (arith, number-is 2 (omega arith), w .first, len-small)
 
   length-is : lengthOf P (next m) ≡ len
-  length-is = omega (arith, pair-is 4 (omega arith), w .long, offset-is, len-small)
+  length-is = omega (arith, number-is 4 (omega arith), w .long, offset-is, len-small)
 
   head-byte : (i : ℕ) → i < headSize → getD P (headOf (next m) + i) 0 ≡ getD m (headAt + i) 0
   unfolding H
@@ -131,12 +133,12 @@ module _ (m m₁ m₂ : List ℕ) (from to offset len at image e h n : ℕ) (abl
   unfolding H
   count-is = (let e : getD P (headOf (next m)) 0 ≡ getD m headAt 0 = ap (λ (y : ℕ). getD P y 0) (omega arith) ∙ head-byte 0 (omega arith) in omega (arith, e, d, H))
 
-  head-is : set (part P (headOf (next m)) headSize) 0 (countOf P (next m)) ≡ part m headAt headSize
+  head-is : set (span P (headOf (next m)) headSize) 0 (countOf P (next m)) ≡ span m headAt headSize
   unfolding H
   head-is =
-      ap₂ (λ (l : List ℕ) (k : ℕ). set l 0 k) (part-same m P headAt (headOf (next m)) headSize (omega (arith, H)) (omega (arith, H, kept)) head-byte)
-      (count-is ∙ sym (getD-part m headAt headSize 0 (omega arith)))
-      ∙ set-getD (part m headAt headSize) 0 0
+      ap₂ (λ (l : List ℕ) (k : ℕ). set l 0 k) (span-same m P headAt (headOf (next m)) headSize (omega (arith, H)) (omega (arith, H, kept)) head-byte)
+      (count-is ∙ sym (getD-span m headAt headSize 0 (omega arith)))
+      ∙ set-getD (span m headAt headSize) 0 0
 
   image-byte : (i : ℕ) → i < len → getD P (image + i) 0 ≡ getD m (at + i) 0
   unfolding H
@@ -155,8 +157,8 @@ module _ (m m₁ m₂ : List ℕ) (from to offset len at image e h n : ℕ) (abl
     from = from-is i;
     to = to-is i;
     offset = offset-is i;
-    bytes = (ap₂ (λ (x y : ℕ). part P (imageAt x (next m)) y) d length-is ∙ ap (λ (x : ℕ). part P x len) (sym ei)
-        ∙ part-same m P at image len (omega (arith, H, at-inside)) (omega (arith, kept, image-inside, len-small)) image-byte ∙ ap (λ (x : ℕ). part m x len) ea) i;
+    bytes = (ap₂ (λ (x y : ℕ). span P (imageAt x (next m)) y) d length-is ∙ ap (λ (x : ℕ). span P x len) (sym ei)
+        ∙ span-same m P at image len (omega (arith, H, at-inside)) (omega (arith, kept, image-inside, len-small)) image-byte ∙ ap (λ (x : ℕ). span m x len) ea) i;
     head = head-is i;
   }
 
@@ -182,8 +184,8 @@ module _ (m m₁ m₂ : List ℕ) (from to offset len at image e h n : ℕ) (abl
     slots = λ i l. below (orderAt + i) (omega arith) (omega (arith, H));
     sound = λ s. record {
       header = stays .header;
-      orderly = orderly-same (capacity m) (capacity P) (slot m) (slot P) d (s .orderly) (λ i l. below (orderAt + i) (omega arith) (omega (arith, H)));
+      permuted = permutation-same (capacity m) (capacity P) (slot m) (slot P) d (s .permuted) (λ i l. below (orderAt + i) (omega arith) (omega (arith, H)));
     };
-    same = λ s. current-kept m P H kept d (λ i x y. below i (omega arith) (omega (arith, H))) (λ i x y. mid i (omega (arith, H)) (omega arith)) (s .orderly .slots);
+    same = λ s. current-kept m P H kept d (λ i x y. below i (omega arith) (omega (arith, H))) (λ i x y. mid i (omega (arith, H)) (omega arith)) (s .permuted .slots);
     offer = λ s. entries-pushed m P kept d j s (saving m from to offset len) z (next-is ∙ eh) (steps-is ∙ en) entry-is (λ p l q. (entries-else p l q, images-else p l q));
   }

@@ -4,16 +4,17 @@ use mathlib.Core.Path.{_≡_, refl, ap, _∙_}
 use mathlib.Core.Bool.{Bool, true}
 use mathlib.Core.List.{List, [], _∷_}
 use lib.ListN.{length, set, take}
-use Rattle.memory.specs.Bytes.{put, insertAt, removeAt}
+use Rattle.little_endian.specs.Bytes.{put}
+use Rattle.memory.specs.Bytes.{insertAt, removeAt}
 use Rattle.memory.specs.Layout.{depth}
 use Rattle.memory.specs.Sound.{Sound}
 use Rattle.memory.specs.State.{Now, Change, State, state, roomOf, number, devices, change, inverse, made, undone}
-use Rattle.journal.specs.Contract.{Committed, Undone}
+use Rattle.journal.specs.Contract.{Right, Committed, Undone}
 use Rattle.journal.proofs.Change as laws
 use Rattle.journal.proofs.Devices as dev
 
 -- A change undone gives the state before it, to the byte.
-pub exact : (s : Now) (c : Change) → laws.Right s c → change (inverse c s) (change c s) ≡ s
+pub exact : (s : Now) (c : Change) → Right s c → change (inverse c s) (change c s) ≡ s
 exact = laws.exact
 
 -- A change and a step back: the state is as it was, and so are the steps on offer, but for one that gave way.

@@ -6,17 +6,17 @@ use mathlib.Core.Path.{_≡_, refl, sym, ap, _∙_}
 use mathlib.Core.Bool.{true, false}
 use mathlib.Core.List.{List, [], _∷_}
 use lib.ListN.{length, take}
-use Rattle.memory.specs.Bytes.{tab, part}
+use Rattle.memory.specs.Bytes.{tab, span}
 use Rattle.memory.specs.Layout.{roomSize, roomAt, headAt, headSize, capacity, depth, next, steps, size, slot, fromOf}
 use Rattle.memory.specs.Sound.{Sound}
-use Rattle.memory.specs.State.{Now, Change, state, current, room, entry, entries, place, change, inverse, pasts, made, stepped, undone, offered, roomOf}
-use Rattle.journal.specs.Contract.{AbleTo, Committed, Offered, Undone, last}
+use Rattle.memory.specs.State.{Now, Change, state, current, room, entry, entries, place, change, inverse, pasts, made, undoneTo, undone, offered, roomOf}
+use Rattle.journal.specs.Contract.{Right, AbleTo, Committed, Offered, Undone, last}
 use Rattle.journal.specs.Parts.{Stays, Saved, Changed, Restored, saving}
 use Rattle.memory.proofs.Judge.{ft, tf}
-use Rattle.memory.proofs.Flat.{part-part, drop-same}
+use Rattle.memory.proofs.Flat.{span-span, drop-same}
 use Rattle.memory.proofs.Read.{fitting, length-rooms, length-room, room-is}
 use Rattle.journal.proofs.Save.{stays-twice}
-use Rattle.journal.proofs.Change.{Right, exact, pasts-take}
+use Rattle.journal.proofs.Change.{exact, pasts-take}
 
 module _ (m : List ℕ) (c : Change) (able : AbleTo m c) (s : Sound m) where
   room-was : roomOf (current m) (c .from) ≡ room m (slot m (c .from))
@@ -35,9 +35,9 @@ module _ (m : List ℕ) (c : Change) (able : AbleTo m c) (s : Sound m) where
     from = c .to;
     to = c .from;
     offset = c .offset;
-    bytes = sym (ap (λ (r : List ℕ). part r (c .offset) (length (c .bytes))) room-was
-        ∙ part-part m (roomAt (slot m (c .from))) roomSize (c .offset) (length (c .bytes)) (omega (arith, able .header, able .there)) (able .fits .inside)) i;
-    head = part m headAt headSize;
+    bytes = sym (ap (λ (r : List ℕ). span r (c .offset) (length (c .bytes))) room-was
+        ∙ span-span m (roomAt (slot m (c .from))) roomSize (c .offset) (length (c .bytes)) (omega (arith, able .header, able .there)) (able .fits .inside)) i;
+    head = span m headAt headSize;
   }
 
   module _ (m₁ m₂ : List ℕ) (x : Saved m (saving m (c .from) (c .to) (c .offset) (length (c .bytes))) m₁) (y : Changed m₁ c m₂) where
@@ -107,7 +107,7 @@ module _ (m m′ : List ℕ) (r : Restored m m′) (s : Sound m) where
     depth = r .stays .j i;
     now = current m′;
     past = pasts (current m′) (entries m′);
-  }) ∙ ap (stepped (state m)) (sym past-was)
+  }) ∙ ap (undoneTo (state m)) (sym past-was)
 
 pub stepped-back : (m m′ : List ℕ) → Offered m → Restored m m′ → Undone m m′ true
 stepped-back m m′ o r = record {
@@ -126,7 +126,7 @@ offered-sound : (m : List ℕ) → Sound m → 0 < steps m → Offered m
 offered-sound m s z =
     let h = s .header in
     let f = fitting m h (last m) in
-    record { some = z; able = record { header = h; fits = f; there = s .orderly .slots (fromOf m (last m)) (f .starts) } }
+    record { some = z; able = record { header = h; fits = f; there = s .permuted .slots (fromOf m (last m)) (f .starts) } }
 
 pub stepped-not : (m : List ℕ) → (Offered m → ⊥) → Undone m m false
 stepped-not m n = record {
@@ -135,7 +135,7 @@ stepped-not m n = record {
   refused = λ _. refl;
   answered = λ s. ap offered (sym (past-none m (none s)));
   sound = λ s. s;
-  changed = λ s. ap (stepped (state m)) (sym (past-none m (none s)));
+  changed = λ s. ap (undoneTo (state m)) (sym (past-none m (none s)));
   kept = refl;
   beyond = refl;
 }

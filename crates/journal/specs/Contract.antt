@@ -1,5 +1,5 @@
 -- What the public calls promise of their answer and of the memory afterwards.
-use Prim.Native.Nat.{ℕ, _<_}
+use Prim.Native.Nat.{ℕ, _+_, _≤_, _<_}
 use mathlib.Core.Path.{_≡_}
 use mathlib.Core.Bool.{Bool, true, false, _&&_}
 use mathlib.Core.List.{List, []}
@@ -7,7 +7,7 @@ use lib.ListN.{length, getD, drop, replicate}
 use lib.Dec.{leb}
 use Rattle.memory.specs.Layout.{most, domainMost, headSize, imageAt, capacity, depth, next, steps, size, fromOf, toOf, countOf, offsetOf, lengthOf}
 use Rattle.memory.specs.Sound.{Sound, Able}
-use Rattle.memory.specs.State.{Change, State, state, made, offered, undone, place}
+use Rattle.memory.specs.State.{Now, Change, State, state, roomOf, made, offered, undone, place}
 
 -- Paper 01, "The table": "Opened with a domain, devices D (1 to 64), depth J (0 to 64) and at least 8,192·(D+J+1) bytes"; the domain has 1 to 32 bytes
 abbrev pub opens : (length-of-domain d j length-of-memory : ℕ) → Bool
@@ -32,6 +32,13 @@ pub record Opened (m domain : List ℕ) (d j : ℕ) (m′ : List ℕ) (r : Bool)
 abbrev pub changeOf : ℕ → ℕ → ℕ → List ℕ → List ℕ → Change
 changeOf from to offset bytes head = record { from = from; to = to; offset = offset; bytes = bytes; head = head }
 
+-- a change that a state can take
+pub record Right (s : Now) (c : Change) : Type 0 where
+  pub starts : c .from < length (s .rooms)
+  pub ends : c .to < length (s .rooms)
+  pub inside : c .offset + length (c .bytes) ≤ length (roomOf s (c .from))
+
+-- memory that can take it
 abbrev pub AbleTo : List ℕ → Change → Type 0
 AbleTo m c = Able m (c .from) (c .to) (getD (c .head) 0 0) (c .offset) (length (c .bytes))
 

@@ -4,8 +4,9 @@ use mathlib.Core.Path.{_≡_}
 use mathlib.Core.List.{List, _∷_}
 use lib.ListN.{length, getD, take}
 use lib.Dec.{eqb}
-use Rattle.memory.specs.Bytes.{part, move}
-use Rattle.memory.specs.Layout.{roomSize, most, mark, markAt, imageAt, domainAt, domainMost, roomAt, headAt, headSize, orderAt, capacity, depth, domainLength, size, slot, fromOf, two, entrySize}
+use Rattle.little_endian.specs.Bytes.{u16}
+use Rattle.memory.specs.Bytes.{span, move}
+use Rattle.memory.specs.Layout.{roomSize, most, mark, markAt, imageAt, domainAt, domainMost, roomAt, headAt, headSize, orderAt, capacity, depth, domainLength, size, slot, fromOf, entrySize}
 use Rattle.memory.specs.Sound.{Header, Sound}
 use Rattle.memory.specs.State.{Change, change, pick, current, entries}
 
@@ -21,7 +22,7 @@ pub record Settled (m head : List ℕ) (d from to : ℕ) (m′ : List ℕ) : Typ
   pub kept : length m′ ≡ length m
   pub whole : length head ≡ headSize
   pub replaced : (i : ℕ) → i < headSize → getD m′ (headAt + i) 0 ≡ getD head i 0
-  pub moved : part m′ orderAt d ≡ move 0 from to (part m orderAt d)
+  pub moved : span m′ orderAt d ≡ move 0 from to (span m orderAt d)
   pub below : (i : ℕ) → i < headAt → getD m′ i 0 ≡ getD m i 0
   pub above : (i : ℕ) → orderAt + d ≤ i → getD m′ i 0 ≡ getD m i 0
 
@@ -43,8 +44,8 @@ pub record Noted (m : List ℕ) (at from to offset len : ℕ) (m′ : List ℕ) 
   pub kept : length m′ ≡ length m
   pub starts : getD m′ at 0 ≡ to
   pub ends : getD m′ (at + 1) 0 ≡ from
-  pub first : two m′ (at + 2) ≡ offset
-  pub long : two m′ (at + 4) ≡ len
+  pub first : u16 m′ (at + 2) ≡ offset
+  pub long : u16 m′ (at + 4) ≡ len
   pub head : (i : ℕ) → i < headSize → getD m′ (at + 8 + i) 0 ≡ getD m (headAt + i) 0
   pub below : (i : ℕ) → i < at → getD m′ i 0 ≡ getD m i 0
   pub above : (i : ℕ) → at + entrySize ≤ i → getD m′ i 0 ≡ getD m i 0
@@ -54,7 +55,7 @@ pub record Stays (m m′ : List ℕ) : Type 0 where
   pub header : Header m′
   pub d : capacity m′ ≡ capacity m
   pub j : depth m′ ≡ depth m
-  pub domain : part m′ domainAt (domainLength m′) ≡ part m domainAt (domainLength m)
+  pub domain : span m′ domainAt (domainLength m′) ≡ span m domainAt (domainLength m)
   pub kept : length m′ ≡ length m
   pub beyond : (i : ℕ) → size m ≤ i → getD m′ i 0 ≡ getD m i 0
 
@@ -72,8 +73,8 @@ saving m from to offset len = record {
   from = to;
   to = from;
   offset = offset;
-  bytes = part m (roomAt (slot m from) + offset) len;
-  head = part m headAt headSize;
+  bytes = span m (roomAt (slot m from) + offset) len;
+  head = span m headAt headSize;
 }
 
 -- the change c was made, and nothing saved

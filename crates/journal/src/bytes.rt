@@ -1,10 +1,11 @@
 // Bytes read, written, copied and moved.
 ghost use mathlib.Core.Path.{_≡_};
 ghost use mathlib.Core.Logic.{_⊎_};
-ghost use Prim.Native.Nat.{_+_, _*_, _≤_, _<_, _/_, _%_, min};
+ghost use Prim.Native.Nat.{_+_, _≤_, _<_, _%_, min};
 ghost use lib.ListN.{length, getD, set};
-ghost use Rattle.memory.specs.Bytes.{part, move};
-ghost use Rattle.memory.specs.Layout.{two, headSize, capacity};
+ghost use Rattle.memory.specs.Bytes.{span, move};
+ghost use Rattle.little_endian.specs.Bytes.{u16};
+ghost use Rattle.memory.specs.Layout.{most, headSize, capacity};
 ghost use Rattle.journal.specs.Parts.{Over, Toward};
 use memory::CAPACITY;
 use memory::HEAD_SIZE;
@@ -21,13 +22,6 @@ pub(crate) fn low(x: usize) -> u8
     (x % 256) as u8
 }
 
-pub(crate) fn high(x: usize) -> u8
-    requires { ⌜ x < 65536 ⌝ }
-    ensures { λ r. ⌜ r ≡ x / 256 ⌝ }
-{
-    (x / 256) as u8
-}
-
 // The byte at a place, or the limit that it is past.
 pub(crate) fn byte_at(mem: &[u8], a: usize, limit: u8) -> u8
     requires { ⌜ a < length (now mem) ⌝ }
@@ -39,17 +33,16 @@ pub(crate) fn byte_at(mem: &[u8], a: usize, limit: u8) -> u8
 
 // The number in two bytes, or the limit that it is past.
 pub(crate) fn number_at(mem: &[u8], a: usize, limit: usize) -> usize
-    requires { ⌜ a + 2 ≤ length (now mem) ⌝ }
-    ensures { λ r. ⌜ r ≡ min (two (now (mem .entry)) a) limit ⌝ }
+    ensures { λ r. ⌜ r ≡ min (u16 (now (mem .entry)) a) limit ⌝ }
 {
-    let x = wide(mem[a]) + 256 * wide(mem[a + 1]);
+    let x = little_endian::get(mem, a, 2) as usize;
     if x < limit { x } else { limit }
 }
 
 // A copy of a head, with at most D devices.
 pub(crate) fn head_at(mem: &[u8], a: usize) -> [u8; HEAD_SIZE]
     requires { ⌜ a + headSize ≤ length (now mem) ⌝ }
-    ensures { λ r. ⌜ r ≡ set (part (now (mem .entry)) a headSize) 0 (min (getD (now (mem .entry)) a 0) (capacity (now (mem .entry)))) ⌝ }
+    ensures { λ r. ⌜ r ≡ set (span (now (mem .entry)) a headSize) 0 (min (getD (now (mem .entry)) a 0) (capacity (now (mem .entry)))) ⌝ }
 {
     let mut head = [0u8; HEAD_SIZE];
     let mut i = 0;
@@ -96,7 +89,7 @@ pub(crate) fn clear(room: &mut [u8])
 
 // 0, 1, 2, ..
 pub(crate) fn number(order: &mut [u8])
-    requires { ⌜ length (now order) ≤ 64 ⌝ }
+    requires { ⌜ length (now order) ≤ most ⌝ }
     ensures { λ _. ⌜ Over (now (order .entry)) (λ i. i) 0 (length (now (order .entry))) (now (order .exit)) ⌝ }
 {
     let mut i: u8 = 0;

@@ -10,8 +10,6 @@ ghost use Rattle.memory.specs.Sound.{Header, Able};
 use crate::bytes::byte_at;
 use crate::bytes::copy;
 use crate::bytes::head_at;
-use crate::bytes::high;
-use crate::bytes::low;
 use crate::bytes::number_at;
 use crate::bytes::shift;
 use crate::bytes::wide;
@@ -63,16 +61,9 @@ pub(crate) fn note(mem: &mut [u8], at: usize, from: u8, to: u8, offset: usize, l
     requires { ⌜ (offset < 65536) × (len < 65536) ⌝ }
     ensures { λ _. ⌜ Noted (now (mem .entry)) at from to offset len (now (mem .exit)) ⌝ }
 {
-    let entry = [
-        to,
-        from,
-        low(offset),
-        high(offset),
-        low(len),
-        high(len),
-        0,
-        0,
-    ];
+    let mut entry = [to, from, 0, 0, 0, 0, 0, 0];
+    little_endian::set(&mut entry, 2, 2, offset as u64);
+    little_endian::set(&mut entry, 4, 2, len as u64);
     write(mem, &entry, at);
     copy(mem, HEAD, at + 8, HEAD_SIZE);
 }

@@ -11,7 +11,7 @@ use lib.ListN.{length, getD, drop, drop-of-length-le}
 use lib.Dec.{eqb}
 use lib.Seq.{drop-cons}
 use borrow.Author.Tests.{ne-eqb, eq-eqb}
-use Rattle.json.specs.Bytes.{byte, ws, word, andThen, Skipped, Within, Scanned, Between, Moved}
+use Rattle.json.specs.Bytes.{byte, ws, word, andThen, Skipped, EndsWithin, Scanned, Between, Moved}
 use Rattle.json.specs.Strings.{stringAt}
 use Rattle.json.specs.Number.{numberAt}
 use Rattle.json.specs.Value.{bracket, brace, other, kindOf, after, series, listOf, colon, keyAt, memberOf, valueOf, valueAt, arrayAt, objectAt, atEnd, documentOf, opens, isContainer}
@@ -72,7 +72,7 @@ module _ {w s : List ℕ} {at i : ℕ} (v : Spelling w s at i) where
 pub spelled : (w s : List ℕ) (at : ℕ) {r : Scan} → 0 < length w → at < length s → Moved (word w s at) at (length s) r → Scanned (word w s at) at (length s) r
 spelled w s at {r} h k m = record { is = m .is; lies = go r (m .is) (m .lies) }
   where
-    go : (q : Scan) → q ≡ word w s at → Between at (length s) q → Within at (length s) q
+    go : (q : Scan) → q ≡ word w s at → Between at (length s) q → EndsWithin at (length s) q
     go (End e) p l = let z = word-length w s at e (sym p) in (omega arith, omega arith)
     go (Bad e) p l = l
 

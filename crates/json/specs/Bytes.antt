@@ -51,13 +51,13 @@ pub record Skipped (want lo hi r : ℕ) : Type 0 where
   pub to : r - hi ≤ lo - hi
 
 -- a scan from lo: past it where it went well
-abbrev pub Within : ℕ → ℕ → Scan → Type 0
-Within lo hi (End e) = (lo < e) × (e ≤ hi)
-Within lo hi (Bad e) = (lo ≤ e) × (e - hi ≤ lo - hi)
+abbrev pub EndsWithin : ℕ → ℕ → Scan → Type 0
+EndsWithin lo hi (End e) = (lo < e) × (e ≤ hi)
+EndsWithin lo hi (Bad e) = (lo ≤ e) × (e - hi ≤ lo - hi)
 
 pub record Scanned (want : Scan) (lo hi : ℕ) (r : Scan) : Type 0 where
   pub is : r ≡ want
-  pub lies : Within lo hi r
+  pub lies : EndsWithin lo hi r
 
 -- a scan that may read nothing
 abbrev pub Between : ℕ → ℕ → Scan → Type 0

@@ -2,9 +2,9 @@
 use Prim.Native.Nat.{ℕ, zero, suc, _+_, _≤_, _<_}
 use native.Mathlib.Omega.{arith}
 use mathlib.Core.Path.{_≡_, refl, sym, ap, _∙_, subst}
-use mathlib.Core.List.{List, [], _∷_}
+use mathlib.Core.List.{List, [], _∷_, _++_}
 use mathlib.Core.Bool.{true, false, true≢false}
-use lib.ListN.{length, drop}
+use lib.ListN.{length, drop, length-append, length-drop}
 use lib.Dec.{eqb}
 use borrow.Author.Tests.{eqb-true, eq-eqb}
 use Rattle.abnf.specs.Abnf.{_·_, x}
@@ -24,6 +24,7 @@ use Rattle.json.proofs.Values.{after-comma, after-close, after-bad, series-then
 use Rattle.json_grammar.proofs.Depth as D
 use Rattle.json_grammar.proofs.Sound.{Sound, value-sound, key-sound, token, begins, closes, shuts}
 use Rattle.json_grammar.proofs.Complete.{value-not}
+use Rattle.json_grammar.proofs.Ends.{Past, token-ends, begin-ends, close-ends, shut-ends, key-past, value-past}
 
 -- a scan is not both
 clash : {A : Type 0} {r : Scan} {e k : ℕ} → r ≡ Bad k → r ≡ End e → A
@@ -87,15 +88,23 @@ module _ (s : List ℕ) where
 
   -- ---- a walk meets the items that the reader read
 
-  stands-within : (d : ℕ) (a : D.Json) (i j : ℕ) → D.Lead (expand G.rules d a) (drop i s) (drop j s) → StandsWithin d s i a j
-  stands-within d a i j h = let p = lead-word G.rules d a h in (p .word, p .is, p .cut)
+  settled : (w : List ℕ) (i j : ℕ) → drop i s ≡ w ++ drop j s → (i ≤ j) × (j ≤ length s) → j ≡ i + length w
+  settled w i j e l =
+      let n : length (drop i s) ≡ length (w ++ drop j s) = ap length e in
+      omega (arith, length-drop i s, length-drop j s, length-append w (drop j s))
+
+  stands-within : (d : ℕ) (a : D.Json) (i j : ℕ) → D.Lead (expand G.rules d a) (drop i s) (drop j s) → (i ≤ j) × (j ≤ length s) → StandsWithin d s i a j
+  stands-within d a i j h l = let p = lead-word G.rules d a h in (p .word, p .is, p .cut, settled (p .word) i j (p .cut) l)
+
+  ends : (i e : ℕ) (r : Scan) → r ≡ End e → Past s i r → (i ≤ e) × (e ≤ length s)
+  ends i e r q p = let l : Past s i (End e) = subst (Past s i) q p in (omega arith, l .1)
 
   pub value-within : (d k e : ℕ) → valueAt d s k ≡ End e → StandsWithin d s k G.value e
   unfolding D.value
-  value-within d k e q = stands-within d G.value k e (subst (Sound s (D.value d) k) q (value-sound s d k))
+  value-within d k e q = stands-within d G.value k e (subst (Sound s (D.value d) k) q (value-sound s d k)) (ends k e (valueAt d s k) q (value-past s d k))
 
-  stands : (a : D.Json) (i j : ℕ) → D.Lead (expand G.rules 16 a) (drop i s) (drop j s) → Stands s i a j
-  stands a i j h = stands-within 16 a i j h
+  stands : (a : D.Json) (i j : ℕ) → D.Lead (expand G.rules 16 a) (drop i s) (drop j s) → (i ≤ j) × (j ≤ length s) → Stands s i a j
+  stands a i j h l = stands-within 16 a i j h l
 
   next-comma : (e : ℕ) → eqb (byte s (ws s e)) 44 ≡ true → nextAt s e ≡ ws s (ws s e + 1)
   unfolding nextAt
@@ -137,24 +146,24 @@ module _ (s : List ℕ) where
             let l = list-more g i (r .0) k (nextAt s k) (r .1) in
             both (eqb (byte s j) 44)
             (λ b. let t = ih (ws s (j + 1)) (sym (after-comma item close s _ j b) ∙ y) in
-            let c : Chain s Is i (record { name = i; value = r .0; end = k } ∷ listFrom step g (ws s (j + 1))) (t .to) = more (r .2) (stands G.value-separator k (ws s (j + 1)) (token s k 44 b (omega arith))) (t .chain) in
+            let c : Chain s Is i (record { name = i; value = r .0; end = k } ∷ listFrom step g (ws s (j + 1))) (t .to) = more (r .2) (stands G.value-separator k (ws s (j + 1)) (token s k 44 b (omega arith)) (token-ends s k 44 b (omega arith))) (t .chain) in
             record { to = t .to; chain = subst (λ (ms : List Member). Chain s Is i ms (t .to)) (sym (l ∙ ap (λ (n : ℕ). record { name = i; value = r .0; end = k } ∷ listFrom step g n) (next-comma k b))) c; shut = t .shut })
             (λ b. both (eqb (byte s j) close)
             (λ c. let z : End (j + 1) ≡ End e = sym (after-close item close s _ j b c) ∙ y in
             let w : j + 1 ≡ e = cc in
             let m : listFrom step g (nextAt s k) ≡ [] = ap (λ (n : ℕ). listFrom step g n) (next-shut k b) ∙ list-stop g j (stops j c) in
             let u : Chain s Is i (record { name = i; value = r .0; end = k } ∷ []) k = last (r .2) in
-            record { to = k; chain = subst (λ (ms : List Member). Chain s Is i ms k) (sym (l ∙ ap (λ (ms : List Member). record { name = i; value = r .0; end = k } ∷ ms) m)) u; shut = subst (λ (n : ℕ). Stands s k (G.ws · x close · G.ws) n) w (stands (G.ws · x close · G.ws) k (j + 1) (closes s k close c small)) })
+            record { to = k; chain = subst (λ (ms : List Member). Chain s Is i ms k) (sym (l ∙ ap (λ (ms : List Member). record { name = i; value = r .0; end = k } ∷ ms) m)) u; shut = subst (λ (n : ℕ). Stands s k (G.ws · x close · G.ws) n) w (stands (G.ws · x close · G.ws) k (j + 1) (closes s k close c small) (close-ends s k close c small)) })
             (λ c. clash (after-bad item close s _ j b c) y))
 
     list-listed : (opening at e : ℕ) → eqb (byte s at) opening ≡ true → opening < 256 → listOf item close s (ws s (at + 1)) ≡ End e → Holds s opening close Is at (listFrom step (suc (length s)) (ws s (at + 1))) e
     list-listed opening at e o h q =
         let i : ℕ = ws s (at + 1) in
-        let b = stands (G.ws · x opening · G.ws) at i (begins s at opening o h) in
+        let b = stands (G.ws · x opening · G.ws) at i (begins s at opening o h) (begin-ends s at opening o h) in
         both (eqb (byte s i) close)
         (λ c. let z : End (i + 1) ≡ End e = sym (list-none item close s i c) ∙ q in
         let w : i + 1 ≡ e = cc in
-        let u : Holds s opening close Is at [] e = none i b (subst (λ (n : ℕ). Stands s i (G.ws · x close · G.ws) n) w (stands (G.ws · x close · G.ws) i (i + 1) (shuts s i close c small))) in
+        let u : Holds s opening close Is at [] e = none i b (subst (λ (n : ℕ). Stands s i (G.ws · x close · G.ws) n) w (stands (G.ws · x close · G.ws) i (i + 1) (shuts s i close c small) (shut-ends s i close c small))) in
         subst (λ (ms : List Member). Holds s opening close Is at ms e) (sym (list-stop (suc (length s)) i (stops i c))) u)
         (λ c. let t = series-listed (length s) (suc (length s)) i e (omega arith) (sym (list-some item close s i c) ∙ q) in some b (t .chain) (t .shut))
 
@@ -191,7 +200,7 @@ module _ (s : List ℕ) where
       go (Bad k) p = clash (member-bad s (λ k. valueAt d s k) i k p) q
       go (End k) p =
           let v = raise d 16 k e h (sym (member-at s (λ k. valueAt d s k) i k p) ∙ q) in
-          (k, member-is i k p ∙ item-is k e v, record { key = stands (G.string · G.name-separator) i k (subst (Sound s (G.string · G.name-separator) i) p (key-sound s i)); holds = value-stands k e v })
+          (k, member-is i k p ∙ item-is k e v, record { key = stands (G.string · G.name-separator) i k (subst (Sound s (G.string · G.name-separator) i) p (key-sound s i)) (ends i k (keyAt s i) p (key-past s i)); holds = value-stands k e v })
 
   object-list : (d at : ℕ) → byte s at ≡ 123 → valueAt (suc d) s at ≡ listOf (λ j. memberOf (λ k. valueAt d s k) s j) 125 s (ws s (at + 1))
   unfolding valueAt kindOf valueOf objectOf

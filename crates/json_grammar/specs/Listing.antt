@@ -1,15 +1,15 @@
 -- What it means that a list of places is the list of an object's members, or of an array's elements, by RFC 8259's rules.
-use Prim.Native.Nat.{ℕ}
+use Prim.Native.Nat.{ℕ, _+_}
 use mathlib.Core.Path.{_≡_}
 use mathlib.Core.List.{List, [], _∷_, _++_}
-use lib.ListN.{drop}
+use lib.ListN.{length, drop}
 use Rattle.abnf.specs.Abnf.{_·_, Abnf, Words, x}
 use Rattle.json_grammar.specs.Rfc8259.{Name, rules, ws, value-separator, name-separator, string, value}
 use Rattle.json.specs.Members.{Member}
 
 -- a word of the rule, nested at most d deep, stands from i to j
 abbrev pub StandsWithin : ℕ → List ℕ → ℕ → Abnf Name → ℕ → Type 0
-StandsWithin d s i a j = (w : List ℕ) × Words rules d a w × (drop i s ≡ w ++ drop j s)
+StandsWithin d s i a j = (w : List ℕ) × Words rules d a w × (drop i s ≡ w ++ drop j s) × (j ≡ i + length w)
 
 abbrev pub Stands : List ℕ → ℕ → Abnf Name → ℕ → Type 0
 Stands s i a j = StandsWithin 16 s i a j

@@ -11,12 +11,12 @@ use lib.Seq.{take-at}
 use borrow.Author.Tests.{le-leb, lt-leb}
 use Rattle.answer.specs.Answer.{Answer, refused, gives, require, andThen}
 use Rattle.text.specs.Ascii.{ascii}
-use Rattle.text.specs.Bytes.{eqBytes, part}
+use Rattle.text.specs.Bytes.{eqBytes, slice}
 use Rattle.text.specs.Split.{split, onto}
 use Rattle.lines.specs.Words.{words, wordAt}
 use Rattle.lines.specs.declared.hex.Decoded.{Decoded}
 use Rattle.lines.specs.declared.hex.Decoded.the-variants.{Bytes, Nothing}
-use Rattle.lines.specs.Hex.{arePairs, pairs, bytesOf, fitting, counted, held, Decodes}
+use Rattle.lines.specs.Hex.{arePairs, pairs, bytesOf, fitting, counted, inFront, Decodes}
 use Rattle.trace.specs.declared.EventAt.{EventAt}
 use Rattle.trace.specs.declared.Reading.{Reading}
 use Rattle.trace.specs.declared.Written.{Written}
@@ -25,8 +25,8 @@ use Rattle.trace.specs.Calls.{appended, event, readAt, meaningReading, shown, P
 use Rattle.lines.specs.declared.number.NumberRead.{NumberRead}
 use Rattle.lines.specs.declared.flag.FlagRead.{FlagRead}
 use Rattle.lines.specs.declared.Input.{Input}
-use Rattle.lines.specs.Out.{Fits}
-use Rattle.lines.specs.Number.{numberOf, numberRead, decimal}
+use Rattle.lines.specs.Out.{FitsBuffer}
+use Rattle.lines.specs.Number.{numberOf, numberRead, decimalText}
 use Rattle.lines.specs.Flag.{flagOf, flagRead}
 use Rattle.payload.specs.declared.Datatype.{Datatype}
 use Rattle.payload.specs.declared.Named.{Named}
@@ -84,11 +84,11 @@ all-fit w n h = pick (eqBytes w (ascii "-")) (leb 1 (length w) && arePairs w)
 
 -- the first n bytes of the memory are what the word says
 pub record Got (o : Option (List ℕ)) (d : List ℕ) (n : ℕ) : Type 0 where
-  pub bytes : o ≡ some (part d 0 n)
+  pub bytes : o ≡ some (slice d 0 n)
   pub inside : n ≤ length d
 
-got : (d : List ℕ) (o : Option (List ℕ)) (n : ℕ) → Bytes n ≡ counted o → Got o (held d o) n
-unfolding counted held
+got : (d : List ℕ) (o : Option (List ℕ)) (n : ℕ) → Bytes n ≡ counted o → Got o (inFront d o) n
+unfolding counted inFront
 got d none n e = let z : _≡_ {A = ℕ} 0 1 = cc in absurd (omega arith)
 got d (some b) n e =
     let k : n ≡ length b = cc in
@@ -105,7 +105,7 @@ module _ {w d d′ : List ℕ} {r : Decoded} (p : Decodes w d r d′) (h : lengt
   decoded n e =
       let f : fitting (length d) (bytesOf w) ≡ bytesOf w = all-fit w (length d) h in
       let a : Bytes n ≡ counted (bytesOf w) = sym e ∙ rw f at (p .answer) in
-      let m : d′ ≡ held d (bytesOf w) = rw f at (p .memory) in
+      let m : d′ ≡ inFront d (bytesOf w) = rw f at (p .memory) in
       rw m (got d (bytesOf w) n a)
 
   pub not-decoded : r ≡ Nothing → bytesOf w ≡ none
@@ -172,10 +172,10 @@ append-says m u t topic b payload p = rw (p .memory, p .answer) (after-told m (a
 
 -- ---- parts of the input
 
-pub part-fits : (t : List ℕ) (s e : ℕ) → length t ≤ 65536 → length (part t s e) ≤ 65536
+pub part-fits : (t : List ℕ) (s e : ℕ) → length t ≤ 65536 → length (slice t s e) ≤ 65536
 part-fits t s e h = simp (length-take, length-drop) (omega arith)
 
-pub input-fits : (r : Input) (d : List ℕ) (n : ℕ) → Fits r d → r ≡ Input.Bytes n → n < length d
+pub input-fits : (r : Input) (d : List ℕ) (n : ℕ) → FitsBuffer r d → r ≡ Input.Bytes n → n < length d
 input-fits r d n p e = rw e at p
 
 pub input-short : (d : List ℕ) (n : ℕ) → n ≤ 65536 → length (take (n - 0) d) ≤ 65536
@@ -192,7 +192,7 @@ unfolding ofDescription
 description-says own s v p = ap (told (λ t. ascii "yes")) p
 
 module _ {f : List ℕ} {i : ℕ} {r : Reading} (p : Read f i r) where
-  pub event-refused : (k : ℕ) → r ≡ Reading.Refused k → ascii "refused " ++ decimal k ≡ ofEvent f i
+  pub event-refused : (k : ℕ) → r ≡ Reading.Refused k → ascii "refused " ++ decimalText k ≡ ofEvent f i
   unfolding ofEvent told
   event-refused k e = rw (read-refused p k e)
 

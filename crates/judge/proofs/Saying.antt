@@ -6,21 +6,22 @@ use mathlib.Core.List.{List, _++_}
 use mathlib.Core.Bool.{Bool, true, false}
 use lib.ListN.{length, take, drop}
 use Rattle.text.specs.Ascii.{ascii}
-use Rattle.text.specs.Bytes.{part}
-use Rattle.lines.specs.Number.{decimal}
+use Rattle.text.specs.Bytes.{slice}
+use Rattle.lines.specs.Number.{decimalText}
 use Rattle.lines.specs.Hex.{hexOf}
 use Rattle.lines.specs.Out.{Puts, Adds}
 use Rattle.lines.proofs.Adding.{put-adds, adds-then}
-use Rattle.topic.specs.declared.Place.{Place}
+use Rattle.text.specs.declared.Place.{Place}
 use Rattle.topic.specs.declared.Topic.{Topic}
-use Rattle.topic.specs.Meaning.{bytesAt, meaning}
+use Rattle.text.specs.Places.{bytesAt}
+use Rattle.topic.specs.Meaning.{meaning}
 use Rattle.trace.specs.declared.EventAt.{EventAt}
 use Rattle.trace.specs.declared.Checked.{Checked}
 use Rattle.trace.specs.declared.Written.{Written}
 use Rattle.trace.specs.Calls.{shown, meaningChecked, meaningWritten}
 use Rattle.description.specs.declared.Verdict.{Verdict}
 use Rattle.description.specs.Meaning.{verdict}
-use Rattle.judge.specs.Texts.{yesOrNo, told, flagText, also, three, formText, eventsText, eventText, usedText}
+use Rattle.judge.specs.Texts.{yesOrNo, told, flagText, also, threeIds, formText, eventsText, eventText, usedText}
 
 -- the same text by another name
 pub says : {d d′ t u : List ℕ} {at r : ℕ} → t ≡ u → Adds d at t r d′ → Adds d at u r d′
@@ -44,7 +45,7 @@ says-zero b e = rw e
 
 -- what an answer says, case by case
 module _ (topic : List ℕ) (t : Topic) where
-  pub no-form : {k : ℕ} → t ≡ Topic.Refused k → ascii "refused " ++ decimal k ≡ told formText (meaning topic t)
+  pub no-form : {k : ℕ} → t ≡ Topic.Refused k → ascii "refused " ++ decimalText k ≡ told formText (meaning topic t)
   unfolding told meaning
   no-form e = rw e
 
@@ -56,15 +57,15 @@ module _ (topic : List ℕ) (t : Topic) where
   unfolding told formText meaning
   is-description e = rw e
 
-  pub is-value : {d n p : Place} → t ≡ Topic.Value d n p → ascii "value" ++ three (bytesAt topic d) (bytesAt topic n) (bytesAt topic p) ≡ told formText (meaning topic t)
+  pub is-value : {d n p : Place} → t ≡ Topic.Value d n p → ascii "value" ++ threeIds (bytesAt topic d) (bytesAt topic n) (bytesAt topic p) ≡ told formText (meaning topic t)
   unfolding told formText meaning
   is-value e = rw e
 
-  pub is-set : {d n p : Place} → t ≡ Topic.Set d n p → ascii "set" ++ three (bytesAt topic d) (bytesAt topic n) (bytesAt topic p) ≡ told formText (meaning topic t)
+  pub is-set : {d n p : Place} → t ≡ Topic.Set d n p → ascii "set" ++ threeIds (bytesAt topic d) (bytesAt topic n) (bytesAt topic p) ≡ told formText (meaning topic t)
   unfolding told formText meaning
   is-set e = rw e
 
-  pub is-target : {d n p : Place} → t ≡ Topic.Target d n p → ascii "target" ++ three (bytesAt topic d) (bytesAt topic n) (bytesAt topic p) ≡ told formText (meaning topic t)
+  pub is-target : {d n p : Place} → t ≡ Topic.Target d n p → ascii "target" ++ threeIds (bytesAt topic d) (bytesAt topic n) (bytesAt topic p) ≡ told formText (meaning topic t)
   unfolding told formText meaning
   is-target e = rw e
 
@@ -84,15 +85,15 @@ module _ (topic : List ℕ) (t : Topic) where
   unfolding told formText meaning
   is-other e = rw e
 
-pub no-events : (c : Checked) {k : ℕ} → c ≡ Checked.Refused k → ascii "refused " ++ decimal k ≡ told eventsText (meaningChecked c)
+pub no-events : (c : Checked) {k : ℕ} → c ≡ Checked.Refused k → ascii "refused " ++ decimalText k ≡ told eventsText (meaningChecked c)
 unfolding told meaningChecked
 no-events c e = rw e
 
-pub some-events : (c : Checked) {n : ℕ} → c ≡ Checked.Count n → ascii "events " ++ decimal n ≡ told eventsText (meaningChecked c)
+pub some-events : (c : Checked) {n : ℕ} → c ≡ Checked.Count n → ascii "events " ++ decimalText n ≡ told eventsText (meaningChecked c)
 unfolding told meaningChecked eventsText
 some-events c e = rw e
 
-pub not-taken : (v : Verdict) {k : ℕ} → v ≡ Verdict.Refused k → ascii "refused " ++ decimal k ≡ told (λ t. ascii "yes") (verdict v)
+pub not-taken : (v : Verdict) {k : ℕ} → v ≡ Verdict.Refused k → ascii "refused " ++ decimalText k ≡ told (λ t. ascii "yes") (verdict v)
 unfolding told verdict
 not-taken v e = rw e
 
@@ -100,11 +101,11 @@ pub is-taken : (v : Verdict) → v ≡ Verdict.Taken → ascii "yes" ≡ told (�
 unfolding told verdict
 is-taken v e = rw e
 
-pub not-used : (m : List ℕ) (w : Written) {k : ℕ} → w ≡ Written.Refused k → ascii "refused " ++ decimal k ≡ told (usedText m) (meaningWritten w)
+pub not-used : (m : List ℕ) (w : Written) {k : ℕ} → w ≡ Written.Refused k → ascii "refused " ++ decimalText k ≡ told (usedText m) (meaningWritten w)
 unfolding told meaningWritten
 not-used m w e = rw e
 
-pub is-used : (m : List ℕ) (w : Written) {n : ℕ} → w ≡ Written.Length n → ascii "used " ++ (decimal n ++ (ascii " " ++ hexOf m)) ≡ told (usedText m) (meaningWritten w)
+pub is-used : (m : List ℕ) (w : Written) {n : ℕ} → w ≡ Written.Length n → ascii "used " ++ (decimalText n ++ (ascii " " ++ hexOf m)) ≡ told (usedText m) (meaningWritten w)
 unfolding told meaningWritten usedText
 is-used m w e = rw e
 
@@ -113,21 +114,21 @@ pub adds-id : {d d′ d″ t w : List ℕ} {at r r′ : ℕ} → Puts d at (asci
 unfolding also
 adds-id {d} {d′} {d″} {t} {w} {at} {r} {r′} p e q = adds-then (put-adds d at (ascii " ") p) (put-adds d′ r t (rw e at q))
 
-pub three-is : (x y z : List ℕ) → also x ++ (also y ++ also z) ≡ three x y z
-unfolding three
+pub three-is : (x y z : List ℕ) → also x ++ (also y ++ also z) ≡ threeIds x y z
+unfolding threeIds
 three-is x y z = refl
 
 -- an event
-part-of : (f : List ℕ) (a n : ℕ) → part f a (a + n) ≡ take n (drop a f)
+part-of : (f : List ℕ) (a n : ℕ) → slice f a (a + n) ≡ take n (drop a f)
 part-of f a n = rw add-sub-cancel-left
 
 pub adds-event : (f : List ℕ) (e : EventAt) {d0 d1 d2 d3 d4 d5 t p : List ℕ} {r1 r2 r3 r4 r5 : ℕ}
-    → Puts d0 0 (decimal (e .time)) r1 d1 → Puts d1 r1 (ascii " ") r2 d2 → t ≡ part f (e .topic) (e .topic + e .tlen) → Puts d2 r2 (hexOf t) r3 d3
-    → Adds d3 r3 (flagText (e .retained)) r4 d4 → p ≡ part f (e .payload) (e .payload + e .plen) → Puts d4 r4 (hexOf p) r5 d5
+    → Puts d0 0 (decimalText (e .time)) r1 d1 → Puts d1 r1 (ascii " ") r2 d2 → t ≡ slice f (e .topic) (e .topic + e .tlen) → Puts d2 r2 (hexOf t) r3 d3
+    → Adds d3 r3 (flagText (e .retained)) r4 d4 → p ≡ slice f (e .payload) (e .payload + e .plen) → Puts d4 r4 (hexOf p) r5 d5
     → Adds d0 0 (eventText (shown f e)) r5 d5
 unfolding eventText shown
 adds-event f e {d0} {d1} {d2} {d3} {d4} {d5} {t} {p} {r1} {r2} {r3} {r4} {r5} a b k c g l h =
-    adds-then (put-adds d0 0 (decimal (e .time)) a)
+    adds-then (put-adds d0 0 (decimalText (e .time)) a)
     (adds-then (put-adds d1 r1 (ascii " ") b)
     (adds-then (put-adds d2 r2 (hexOf (take (e .tlen) (drop (e .topic) f))) (rw (k, part-of) at c))
     (adds-then g (put-adds d4 r4 (hexOf (take (e .plen) (drop (e .payload) f))) (rw (l, part-of) at h)))))

@@ -90,11 +90,30 @@ four verb a b c = cond (eqBytes verb (ascii "payload")) (payloadLine a b c) unkn
 unfoldable pub seven : List ℕ → List ℕ → List ℕ → List ℕ → List ℕ → List ℕ → List ℕ → List ℕ
 seven verb m u t a f b = cond (eqBytes verb (ascii "append")) (appendLine m u t a f b) unknown
 
+-- the same by the words of a line
+abbrev pub twoWords : List ℕ → List ℕ
+twoWords line = two (wordAt line 0) (wordAt line 1)
+
+abbrev pub threeWords : List ℕ → List ℕ
+threeWords line = three (wordAt line 0) (wordAt line 1) (wordAt line 2)
+
+abbrev pub fourWords : List ℕ → List ℕ
+fourWords line = four (wordAt line 0) (wordAt line 1) (wordAt line 2) (wordAt line 3)
+
+abbrev pub sevenWords : List ℕ → List ℕ
+sevenWords line = seven (wordAt line 0) (wordAt line 1) (wordAt line 2) (wordAt line 3) (wordAt line 4) (wordAt line 5) (wordAt line 6)
+
+abbrev pub appendWords : List ℕ → List ℕ
+appendWords line = appendLine (wordAt line 1) (wordAt line 2) (wordAt line 3) (wordAt line 4) (wordAt line 5) (wordAt line 6)
+
+abbrev pub eventWords : List ℕ → ℕ → List ℕ → List ℕ
+eventWords buffer used line = appendEvent buffer used (wordAt line 3) (wordAt line 4) (wordAt line 5) (wordAt line 6)
+
 -- "reads lines [..] and answers one line each. Words are parted by one space"
 unfoldable pub answerTo : List ℕ → List ℕ
 answerTo line =
-    cond (eqb (wordCount line) 2) (two (wordAt line 0) (wordAt line 1))
-    (cond (eqb (wordCount line) 3) (three (wordAt line 0) (wordAt line 1) (wordAt line 2))
-    (cond (eqb (wordCount line) 4) (four (wordAt line 0) (wordAt line 1) (wordAt line 2) (wordAt line 3))
-    (cond (eqb (wordCount line) 7) (seven (wordAt line 0) (wordAt line 1) (wordAt line 2) (wordAt line 3) (wordAt line 4) (wordAt line 5) (wordAt line 6))
+    cond (eqb (wordCount line) 2) (twoWords line)
+    (cond (eqb (wordCount line) 3) (threeWords line)
+    (cond (eqb (wordCount line) 4) (fourWords line)
+    (cond (eqb (wordCount line) 7) (sevenWords line)
     unknown)))

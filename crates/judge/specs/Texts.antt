@@ -7,7 +7,7 @@ use lib.ListN.{length}
 use Rattle.answer.specs.Answer.{Answer, refused, gives}
 use Rattle.text.specs.Ascii.{ascii}
 use Rattle.lines.specs.Hex.{hexOf}
-use Rattle.lines.specs.Number.{decimal}
+use Rattle.lines.specs.Number.{decimalText}
 use Rattle.topic.specs.Form.{Form, state, description, value, set, target, alert, log, broadcast, other}
 use Rattle.trace.specs.Layout.{Event}
 
@@ -27,27 +27,27 @@ yesOrNo false = ascii "no"
 
 -- "or `refused N`"
 unfoldable pub told : {A : Type 0} → (A → List ℕ) → Answer A → List ℕ
-told say (refused n) = ascii "refused " ++ decimal n
+told say (refused n) = ascii "refused " ++ decimalText n
 told say (gives a) = say a
 
 -- "→ `events N`"
 unfoldable pub eventsText : ℕ → List ℕ
-eventsText n = ascii "events " ++ decimal n
+eventsText n = ascii "events " ++ decimalText n
 
 -- "the form's name and its IDs as text": one more word
 unfoldable pub also : List ℕ → List ℕ
 also id = ascii " " ++ id
 
-unfoldable pub three : List ℕ → List ℕ → List ℕ → List ℕ
-three d n p = also d ++ (also n ++ also p)
+unfoldable pub threeIds : List ℕ → List ℕ → List ℕ → List ℕ
+threeIds d n p = also d ++ (also n ++ also p)
 
 -- "(`state lamp`, `set lamp light on`, `alert lamp low`, `log lamp`, `other lamp`, `broadcast`)"
 unfoldable pub formText : Form → List ℕ
 formText (state d) = ascii "state" ++ also d
 formText (description d) = ascii "description" ++ also d
-formText (value d n p) = ascii "value" ++ three d n p
-formText (set d n p) = ascii "set" ++ three d n p
-formText (target d n p) = ascii "target" ++ three d n p
+formText (value d n p) = ascii "value" ++ threeIds d n p
+formText (set d n p) = ascii "set" ++ threeIds d n p
+formText (target d n p) = ascii "target" ++ threeIds d n p
 formText (alert d a) = ascii "alert" ++ (also d ++ also a)
 formText (log d l) = ascii "log" ++ also d
 formText (broadcast ids) = ascii "broadcast"
@@ -59,8 +59,8 @@ flagText true = ascii " 1 "
 flagText false = ascii " 0 "
 
 unfoldable pub eventText : Event → List ℕ
-eventText e = decimal (e .time) ++ (ascii " " ++ (hexOf (e .topic) ++ (flagText (e .retained) ++ hexOf (e .payload))))
+eventText e = decimalText (e .time) ++ (ascii " " ++ (hexOf (e .topic) ++ (flagText (e .retained) ++ hexOf (e .payload))))
 
 -- "`used N BUFFERHEX` (the whole buffer afterwards)"
 unfoldable pub usedText : List ℕ → ℕ → List ℕ
-usedText buffer n = ascii "used " ++ (decimal n ++ (ascii " " ++ hexOf buffer))
+usedText buffer n = ascii "used " ++ (decimalText n ++ (ascii " " ++ hexOf buffer))

@@ -9,7 +9,7 @@ ghost use Prim.Native.Nat.{_≤_};
 ghost use lib.ListN.{length};
 ghost use Rattle.lines.specs.Words.{wordAt};
 ghost use Rattle.lines.specs.Out.{Adds};
-ghost use Rattle.judge.specs.Questions.{ofBytes, ofTopic, ofDescription, ofEvent, ofAppend, topicLine, descriptionLine, formatLine, eventLine, payloadLine, appendEvent, appendLine, two as twoWords, three as threeWords, four as fourWords, seven as sevenWords, answerTo};
+ghost use Rattle.judge.specs.Questions.{ofBytes, ofTopic, ofDescription, ofEvent, ofAppend, topicLine, descriptionLine, formatLine, eventLine, payloadLine, twoWords, threeWords, fourWords, sevenWords, appendWords, eventWords, answerTo};
 
 // `id`, `utf8`, `trace`
 fn of_bytes(verb: &[u8], b: &[u8], out: &mut [u8]) -> usize
@@ -68,7 +68,7 @@ fn of_append(
 // A line of two words.
 fn two(line: &[u8], out: &mut [u8]) -> usize
     requires { ⌜ length (now line) ≤ 65536 ⌝ }
-    ensures { λ r. ⌜ Adds (now (out .entry)) 0 (twoWords (wordAt (now (line .entry)) 0) (wordAt (now (line .entry)) 1)) r (now (out .exit)) ⌝ }
+    ensures { λ r. ⌜ Adds (now (out .entry)) 0 (twoWords (now (line .entry))) r (now (out .exit)) ⌝ }
 {
     let mut mem = io::large_buffer();
     let Decoded::Bytes(n) = lines::hex::decode(lines::word::at(line, 1), &mut mem) else {
@@ -138,7 +138,7 @@ fn event_line(line: &[u8], out: &mut [u8]) -> usize
 // A line of three words.
 fn three(line: &[u8], out: &mut [u8]) -> usize
     requires { ⌜ length (now line) ≤ 65536 ⌝ }
-    ensures { λ r. ⌜ Adds (now (out .entry)) 0 (threeWords (wordAt (now (line .entry)) 0) (wordAt (now (line .entry)) 1) (wordAt (now (line .entry)) 2)) r (now (out .exit)) ⌝ }
+    ensures { λ r. ⌜ Adds (now (out .entry)) 0 (threeWords (now (line .entry))) r (now (out .exit)) ⌝ }
 {
     let verb = lines::word::at(line, 0);
     if text::same(verb, b"topic") {
@@ -177,7 +177,7 @@ fn payload_line(line: &[u8], out: &mut [u8]) -> usize
 // A line of four words.
 fn four(line: &[u8], out: &mut [u8]) -> usize
     requires { ⌜ length (now line) ≤ 65536 ⌝ }
-    ensures { λ r. ⌜ Adds (now (out .entry)) 0 (fourWords (wordAt (now (line .entry)) 0) (wordAt (now (line .entry)) 1) (wordAt (now (line .entry)) 2) (wordAt (now (line .entry)) 3)) r (now (out .exit)) ⌝ }
+    ensures { λ r. ⌜ Adds (now (out .entry)) 0 (fourWords (now (line .entry))) r (now (out .exit)) ⌝ }
 {
     if text::same(lines::word::at(line, 0), b"payload") {
         return payload_line(line, out);
@@ -188,7 +188,7 @@ fn four(line: &[u8], out: &mut [u8]) -> usize
 // The event of an append, in the words from the third on.
 fn append_event(line: &[u8], out: &mut [u8], buffer: &mut [u8], used: u64) -> usize
     requires { ⌜ length (now line) ≤ 65536 ⌝ }
-    ensures { λ r. ⌜ Adds (now (out .entry)) 0 (appendEvent (now (buffer .entry)) used (wordAt (now (line .entry)) 3) (wordAt (now (line .entry)) 4) (wordAt (now (line .entry)) 5) (wordAt (now (line .entry)) 6)) r (now (out .exit)) ⌝ }
+    ensures { λ r. ⌜ Adds (now (out .entry)) 0 (eventWords (now (buffer .entry)) used (now (line .entry))) r (now (out .exit)) ⌝ }
 {
     let NumberRead::Value(time) = lines::number::read(lines::word::at(line, 3)) else {
         return say::unknown(out);
@@ -209,7 +209,7 @@ fn append_event(line: &[u8], out: &mut [u8], buffer: &mut [u8], used: u64) -> us
 
 fn append_line(line: &[u8], out: &mut [u8]) -> usize
     requires { ⌜ length (now line) ≤ 65536 ⌝ }
-    ensures { λ r. ⌜ Adds (now (out .entry)) 0 (appendLine (wordAt (now (line .entry)) 1) (wordAt (now (line .entry)) 2) (wordAt (now (line .entry)) 3) (wordAt (now (line .entry)) 4) (wordAt (now (line .entry)) 5) (wordAt (now (line .entry)) 6)) r (now (out .exit)) ⌝ }
+    ensures { λ r. ⌜ Adds (now (out .entry)) 0 (appendWords (now (line .entry))) r (now (out .exit)) ⌝ }
 {
     let mut mem = io::large_buffer();
     let Decoded::Bytes(n) = lines::hex::decode(lines::word::at(line, 1), &mut mem) else {
@@ -224,7 +224,7 @@ fn append_line(line: &[u8], out: &mut [u8]) -> usize
 // A line of seven words.
 fn seven(line: &[u8], out: &mut [u8]) -> usize
     requires { ⌜ length (now line) ≤ 65536 ⌝ }
-    ensures { λ r. ⌜ Adds (now (out .entry)) 0 (sevenWords (wordAt (now (line .entry)) 0) (wordAt (now (line .entry)) 1) (wordAt (now (line .entry)) 2) (wordAt (now (line .entry)) 3) (wordAt (now (line .entry)) 4) (wordAt (now (line .entry)) 5) (wordAt (now (line .entry)) 6)) r (now (out .exit)) ⌝ }
+    ensures { λ r. ⌜ Adds (now (out .entry)) 0 (sevenWords (now (line .entry))) r (now (out .exit)) ⌝ }
 {
     if text::same(lines::word::at(line, 0), b"append") {
         return append_line(line, out);

@@ -1,6 +1,6 @@
 // Answers, written into a lent buffer.
 use description::Verdict;
-use topic::Place;
+use text::Place;
 use topic::Topic;
 use trace::Checked;
 use trace::EventAt;
@@ -9,13 +9,14 @@ ghost use Prim.Native.Nat.{_+_, _≤_};
 ghost use mathlib.Core.List.{_++_};
 ghost use lib.ListN.{length};
 ghost use Rattle.text.specs.Ascii.{ascii};
-ghost use Rattle.text.specs.Bytes.{part};
-ghost use Rattle.lines.specs.Number.{decimal};
+ghost use Rattle.text.specs.Bytes.{slice};
+ghost use Rattle.lines.specs.Number.{decimalText};
 ghost use Rattle.lines.specs.Out.{Adds};
-ghost use Rattle.topic.specs.Meaning.{meaning, bytesAt};
+ghost use Rattle.text.specs.Places.{bytesAt};
+ghost use Rattle.topic.specs.Meaning.{meaning};
 ghost use Rattle.trace.specs.Calls.{meaningChecked, meaningWritten, shown};
 ghost use Rattle.description.specs.Meaning.{verdict};
-ghost use Rattle.judge.specs.Texts.{unknown, yesOrNo, told, eventsText, also, three as threeIds, formText, flagText, eventText, usedText};
+ghost use Rattle.judge.specs.Texts.{unknown, yesOrNo, told, eventsText, also, threeIds, formText, flagText, eventText, usedText};
 
 pub(crate) fn unknown(out: &mut [u8]) -> usize
     ensures { λ r. ⌜ Adds (now (out .entry)) 0 unknown r (now (out .exit)) ⌝ }
@@ -33,7 +34,7 @@ pub(crate) fn yes_or_no(out: &mut [u8], yes: bool) -> usize
 }
 
 pub(crate) fn refused(out: &mut [u8], n: u8) -> usize
-    ensures { λ r. ⌜ Adds (now (out .entry)) 0 (ascii "refused " ++ decimal n) r (now (out .exit)) ⌝ }
+    ensures { λ r. ⌜ Adds (now (out .entry)) 0 (ascii "refused " ++ decimalText n) r (now (out .exit)) ⌝ }
 {
     let at = lines::out::put(out, 0, b"refused ");
     lines::number::write(out, at, n as u64)
@@ -65,7 +66,7 @@ fn id(out: &mut [u8], at: usize, topic: &[u8], p: Place) -> usize
     ensures { λ r. ⌜ Adds (now (out .entry)) at (also (bytesAt (now (topic .entry)) p)) r (now (out .exit)) ⌝ }
 {
     let next = lines::out::put(out, at, b" ");
-    lines::out::put(out, next, fields::slice(topic, p.start, p.end))
+    lines::out::put(out, next, text::slice(topic, p.start, p.end))
 }
 
 fn ids(out: &mut [u8], at: usize, topic: &[u8], d: Place, n: Place, p: Place) -> usize
@@ -149,12 +150,12 @@ pub(crate) fn event(out: &mut [u8], file: &[u8], e: EventAt) -> usize
 {
     let at = lines::number::write(out, 0, e.time);
     let topic = lines::out::put(out, at, b" ");
-    let next = lines::hex::encode(out, topic, fields::slice(file, e.topic, e.topic + e.tlen));
+    let next = lines::hex::encode(out, topic, text::slice(file, e.topic, e.topic + e.tlen));
     let payload = flag(out, next, e.retained);
     lines::hex::encode(
         out,
         payload,
-        fields::slice(file, e.payload, e.payload + e.plen),
+        text::slice(file, e.payload, e.payload + e.plen),
     )
 }
 

@@ -7,8 +7,8 @@ use lib.ListN.{length, take, drop, length-append}
 use lib.Seq.{take-at, length-take-le}
 use borrow.Author.Tests.{le-leb, lt-leb}
 use Rattle.text.proofs.Bytes.{at-most}
-use Rattle.trace.specs.Parts.{put}
-use Rattle.trace.proofs.Put.{length-put}
+use Rattle.little_endian.specs.Bytes.{put}
+use Rattle.little_endian.proofs.Put.{length-put}
 use Rattle.lines.specs.Out.{Puts, Stands, Adds, written, behind}
 
 module _ (d : List ℕ) (at : ℕ) (t : List ℕ) where

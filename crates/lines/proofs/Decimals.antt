@@ -9,7 +9,7 @@ use lib.Dec.{ltb, lit<}
 use borrow.Author.Tests.{le-ltb, lt-ltb}
 use Rattle.io.specs.Digits.{digits, glyph, Fewest}
 use Rattle.lines.specs.Out.{Puts}
-use Rattle.lines.specs.Number.{decimalIn, decimal}
+use Rattle.lines.specs.Number.{decimalIn, decimalText}
 
 last-digit : (n : ℕ) → glyph (n % 10) ≡ 48 + n % 10
 last-digit n = rw (lt-ltb (n % 10) 10 (omega arith))
@@ -34,8 +34,8 @@ spelled (suc k) (suc j) n l h m =
     let f : 10 ^ suc (suc k) ≡ 10 ^ suc k * 10 = pow-suc 10 (suc k) in
     more-digits k j n (omega arith) (spelled k j (n / 10) (omega arith) (omega arith) (λ z. omega arith))
 
-pub decimal-digits : (r n : ℕ) → r ≤ 20 → Fewest 10 1 n r → digits 10 r n ≡ decimal n
-unfolding decimal
+pub decimal-digits : (r n : ℕ) → r ≤ 20 → Fewest 10 1 n r → digits 10 r n ≡ decimalText n
+unfolding decimalText
 decimal-digits zero n l f = absurd (omega (arith, f .0))
 decimal-digits (suc k) n l f = spelled k 20 n (omega arith) (f .1) (λ z. let e : suc k - 1 ≡ k = omega arith in rw e at (f .2 (omega arith)))
 
@@ -48,5 +48,5 @@ few r n h f = at-most r 20
     let q : 10 ^ (r - 1) ≤ n = f .2 (omega arith) in
     absurd (omega arith))
 
-pub decimal-puts : (d : List ℕ) (at n r : ℕ) (t : List ℕ) {p : ℕ} {d′ : List ℕ} → n < 2 ^ 64 → Fewest 10 1 n r → t ≡ digits 10 r n → Puts d at t p d′ → Puts d at (decimal n) p d′
+pub decimal-puts : (d : List ℕ) (at n r : ℕ) (t : List ℕ) {p : ℕ} {d′ : List ℕ} → n < 2 ^ 64 → Fewest 10 1 n r → t ≡ digits 10 r n → Puts d at t p d′ → Puts d at (decimalText n) p d′
 decimal-puts d at n r t h f e p = rw (e, decimal-digits r n (few r n h f) f) at p

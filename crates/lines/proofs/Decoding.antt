@@ -11,10 +11,10 @@ use lib.ListN.{length, drop}
 use borrow.Author.Tests.{le-leb, lt-leb, leb-true, leb-false}
 use Rattle.text.specs.Ascii.{ascii}
 use Rattle.text.specs.Bytes.{eqBytes}
-use Rattle.trace.specs.Parts.{put}
+use Rattle.little_endian.specs.Bytes.{put}
 use Rattle.lines.specs.declared.hex.Decoded.{Decoded}
 use Rattle.lines.specs.declared.hex.Decoded.the-variants.{Bytes, Nothing}
-use Rattle.lines.specs.Hex.{isDigit, arePairs, pairs, bytesOf, fitting, counted, held, Decodes}
+use Rattle.lines.specs.Hex.{isDigit, arePairs, pairs, bytesOf, fitting, counted, inFront, Decodes}
 
 pub pairs-length : (w : List ℕ) → arePairs w ≡ true → length w ≡ 2 * length (pairs w)
 unfolding arePairs pairs
@@ -29,11 +29,11 @@ pairs-length (a ∷ (b ∷ s)) e = let h = pairs-length s (last (isDigit a) (isD
 
 module _ (w d : List ℕ) where
   pub decode-none : true ≡ eqBytes w (ascii "-") → Decodes w d (Bytes 0) d
-  unfolding bytesOf fitting counted held
+  unfolding bytesOf fitting counted inFront
   decode-none e = record { answer = rw (← e, le-leb 0 (length d) (omega arith)); memory = rw (← e, le-leb 0 (length d) (omega arith)) }
 
   refuse : bytesOf w ≡ none → Decodes w d Nothing d
-  unfolding fitting counted held
+  unfolding fitting counted inFront
   refuse e = record { answer = rw e; memory = rw e }
 
   module _ (n : false ≡ eqBytes w (ascii "-")) where
@@ -57,7 +57,7 @@ module _ (w d : List ℕ) where
       is-some = rw (← n, ← h, le-leb 1 (length w) (omega arith))
 
       pub decode-full : length d < length w / 2 → Decodes w d Nothing d
-      unfolding fitting counted held
+      unfolding fitting counted inFront
       decode-full l =
           let g : length d < length (pairs w) = omega (arith, pairs-length w (sym h)) in
           record { answer = rw (is-some, lt-leb (length (pairs w)) (length d) g); memory = rw (is-some, lt-leb (length (pairs w)) (length d) g) }
@@ -66,7 +66,7 @@ module _ (w d : List ℕ) where
       decode-fits l = omega (arith, pairs-length w (sym h))
 
       pub decode-all : {d′ : List ℕ} → length w / 2 ≤ length d → d′ ≡ put d 0 (pairs w) → Decodes w d (Bytes (length w / 2)) d′
-      unfolding fitting counted held put
+      unfolding fitting counted inFront put
       decode-all l e =
           let g : length (pairs w) ≤ length d = decode-fits l in
           let m : length w / 2 ≡ length (pairs w) = omega (arith, pairs-length w (sym h)) in

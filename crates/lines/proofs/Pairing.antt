@@ -10,8 +10,8 @@ use lib.ListN.{length, getD, drop, drop-of-length-le, set, length-set}
 use lib.Seq.{drop-cons}
 use borrow.Author.Tests.{le-leb, lt-leb, leb-true, leb-false}
 use Rattle.text.proofs.Bytes.{and-both}
-use Rattle.trace.specs.Parts.{put}
-use Rattle.trace.proofs.Put.{put-none}
+use Rattle.little_endian.specs.Bytes.{put}
+use Rattle.little_endian.proofs.Put.{put-none}
 use Rattle.lines.specs.Hex.{valueOf, isDigit, arePairs, pairs}
 use Rattle.lines.proofs.Putting.{store-then}
 

@@ -9,7 +9,7 @@ use lib.Dec.{eqb, leb}
 use lib.ListN.{length, getD, drop, drop-of-length-le}
 use lib.Seq.{drop-cons}
 use borrow.Author.Tests.{le-leb, lt-leb, eq-eqb, ne-eqb}
-use Rattle.text.specs.Bytes.{part}
+use Rattle.text.specs.Bytes.{slice}
 use Rattle.text.specs.Split.{split, onto, partAt}
 use Rattle.text.specs.declared.Part.the-variants.{Found, Nothing}
 use Rattle.text.proofs.Bytes.{at-most}
@@ -64,7 +64,7 @@ module _ {line : List ℕ} {n i : ℕ} (c : Counted line n i) where
 unfoldable pub wordsFrom : List ℕ → ℕ → List (List ℕ)
 wordsFrom line at = cond (leb at (length line)) (split 32 (drop at line)) []
 
-pub from-next : (line : List ℕ) (at s e n : ℕ) → Found s e n ≡ partAt 32 line at → wordsFrom line at ≡ part line s e ∷ wordsFrom line n
+pub from-next : (line : List ℕ) (at s e n : ℕ) → Found s e n ≡ partAt 32 line at → wordsFrom line at ≡ slice line s e ∷ wordsFrom line n
 unfolding wordsFrom
 from-next line at s e n q =
     let p : IsPart 32 line at s e n = is-part 32 line at s e n q in
@@ -92,7 +92,7 @@ module _ (line : List ℕ) (k from left : ℕ) (l : Left line k from left) where
       none-at zero = refl
       none-at (suc i) = refl
 
-  pub left-here : (s e n : ℕ) → Found s e n ≡ partAt 32 line from → left ≡ 0 → part line s e ≡ wordAt line k
+  pub left-here : (s e n : ℕ) → Found s e n ≡ partAt 32 line from → left ≡ 0 → slice line s e ≡ wordAt line k
   left-here s e n q z = rw (from-next line from s e n q, z) at l
 
   pub left-next : (s e n : ℕ) → Found s e n ≡ partAt 32 line from → 0 < left → Left line k n (left - 1)

@@ -8,8 +8,8 @@ use Rattle.text.proofs.Bytes.{at-most}
 use lib.ListN.{length, set, length-set}
 use borrow.Author.Tests.{le-leb, lt-leb, leb-true, leb-false}
 use mathlib.Core.Bool.{Bool, true, false}
-use Rattle.trace.specs.Parts.{put}
-use Rattle.trace.proofs.Put.{put-one, put-then}
+use Rattle.little_endian.specs.Bytes.{put}
+use Rattle.little_endian.proofs.Put.{put-one, put-then}
 use Rattle.lines.specs.Out.{Puts, written, behind}
 
 pub room-left : (at n l : ℕ) → at ≤ l → leb n (l - at) ≡ leb (at + n) l

@@ -12,7 +12,7 @@ use borrow.Author.Tests.{le-leb, le-ltb, lt-ltb}
 use Rattle.text.specs.Bytes.{every}
 use Rattle.text.proofs.Bytes.{at-most}
 use Rattle.numbers.specs.Digits.{isDigit, numeral, number}
-use Rattle.lines.specs.Number.{numberOf, decimalIn, decimal}
+use Rattle.lines.specs.Number.{numberOf, decimalIn, decimalText}
 
 numeral-snoc : (a : ℕ) (s : List ℕ) (d : ℕ) → numeral a (s ++ (d ∷ [])) ≡ numeral a s * 10 + (d - 48)
 unfolding numeral
@@ -63,6 +63,6 @@ read-number : (s : List ℕ) (n : ℕ) → n < 2 ^ 64 → Reads s n → numberOf
 unfolding numberOf
 read-number s n h r = rw (le-leb 1 (length s) (r .some), r .digits, r .value, lt-ltb n (2 ^ 64) h)
 
-pub number-back : (n : ℕ) → n < 2 ^ 64 → numberOf (decimal n) ≡ some n
-unfolding decimal
+pub number-back : (n : ℕ) → n < 2 ^ 64 → numberOf (decimalText n) ≡ some n
+unfolding decimalText
 number-back n h = read-number (decimalIn 20 n) n h (reads 19 n (omega arith))

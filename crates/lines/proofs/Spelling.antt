@@ -7,8 +7,8 @@ use native.Mathlib.Numerals.{add-one}
 use borrow.Author.Tests.{lt-ltb, le-ltb}
 use lib.ListN.{length, getD, drop, drop-of-length-le, set, length-set}
 use lib.Seq.{drop-cons}
-use Rattle.trace.specs.Parts.{put}
-use Rattle.trace.proofs.Put.{put-none}
+use Rattle.little_endian.specs.Bytes.{put}
+use Rattle.little_endian.proofs.Put.{put-none}
 use Rattle.lines.specs.Hex.{digitOf, digitsOf, hexOf}
 use Rattle.lines.specs.Out.{Puts}
 use Rattle.lines.proofs.Putting.{store-two, room, no-room}

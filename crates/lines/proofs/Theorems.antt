@@ -7,7 +7,7 @@ use mathlib.Core.Option.{some}
 use lib.Dec.{ltb}
 use Rattle.text.specs.Bytes.{every}
 use Rattle.lines.specs.Hex.{hexOf, bytesOf}
-use Rattle.lines.specs.Number.{numberOf, decimal}
+use Rattle.lines.specs.Number.{numberOf, decimalText}
 use Rattle.lines.proofs.RoundTrips.{hex-back, hex-word}
 use Rattle.lines.proofs.ReadBack.{number-back}
 
@@ -20,5 +20,5 @@ pub hex-only : (w s : List ℕ) → bytesOf w ≡ some s → w ≡ hexOf s
 hex-only w s e = hex-word w s e
 
 -- a number of 64 bits that is written is read back
-pub number-reads-back : (n : ℕ) → n < 2 ^ 64 → numberOf (decimal n) ≡ some n
+pub number-reads-back : (n : ℕ) → n < 2 ^ 64 → numberOf (decimalText n) ≡ some n
 number-reads-back n h = number-back n h

@@ -56,10 +56,10 @@ unfoldable pub counted : Option (List ℕ) → Decoded
 counted none = Nothing
 counted (some b) = Bytes (length b)
 
-unfoldable pub held : List ℕ → Option (List ℕ) → List ℕ
-held d none = d
-held d (some b) = b ++ drop (length b) d
+unfoldable pub inFront : List ℕ → Option (List ℕ) → List ℕ
+inFront d none = d
+inFront d (some b) = b ++ drop (length b) d
 
 pub record Decodes (w d : List ℕ) (r : Decoded) (d′ : List ℕ) : Type 0 where
   pub answer : r ≡ counted (fitting (length d) (bytesOf w))
-  pub memory : d′ ≡ held d (fitting (length d) (bytesOf w))
+  pub memory : d′ ≡ inFront d (fitting (length d) (bytesOf w))

@@ -25,5 +25,5 @@ decimalIn zero n = []
 decimalIn (suc k) n = cond (ltb n 10) ((48 + n) ∷ []) (decimalIn k (n / 10) ++ ((48 + n % 10) ∷ []))
 
 -- twenty digits write every number of 64 bits
-unfoldable pub decimal : ℕ → List ℕ
-decimal n = decimalIn 20 n
+unfoldable pub decimalText : ℕ → List ℕ
+decimalText n = decimalIn 20 n

@@ -22,9 +22,9 @@ pub record Puts (d : List ℕ) (at : ℕ) (t : List ℕ) (r : ℕ) (d′ : List 
   pub memory : d′ ≡ written d at t
 
 -- input that was taken leaves a byte of the buffer over
-abbrev pub Fits : Input → List ℕ → Type 0
-Fits (Bytes n) d = n < length d
-Fits TooLong d = Unit {0}
+abbrev pub FitsBuffer : Input → List ℕ → Type 0
+FitsBuffer (Bytes n) d = n < length d
+FitsBuffer TooLong d = Unit {0}
 
 -- a text stands in front in a buffer, up to a place
 pub record Stands (d : List ℕ) (at : ℕ) (s : List ℕ) : Type 0 where

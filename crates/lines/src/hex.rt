@@ -7,7 +7,7 @@ ghost use Prim.Native.Nat.{_+_, _*_, _≤_, _<_};
 ghost use lib.ListN.{length};
 ghost use Rattle.lines.specs.Hex.{digitOf, digitsOf, hexOf, valueOf, arePairs, pairs, Decodes};
 ghost use Rattle.lines.specs.Out.{Puts};
-ghost use Rattle.trace.specs.Parts.{put as over};
+ghost use Rattle.little_endian.specs.Bytes.{put as over};
 
 // How many bytes a word writes, or that it writes none.
 pub enum Decoded {

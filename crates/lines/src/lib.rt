@@ -5,7 +5,7 @@ pub mod number;
 pub mod out;
 pub mod word;
 
-ghost use Rattle.lines.specs.Out.{Fits};
+ghost use Rattle.lines.specs.Out.{FitsBuffer};
 use libc::STDIN_FILENO;
 use libc::STDOUT_FILENO;
 
@@ -17,7 +17,7 @@ pub enum Input {
 
 // Reads standard input to its end. The buffer is a byte longer than the longest input that is taken.
 pub fn read_input(buf: &mut [u8]) -> Input
-    ensures { λ r. ⌜ Fits r (now (buf .exit)) ⌝ }
+    ensures { λ r. ⌜ FitsBuffer r (now (buf .exit)) ⌝ }
 {
     let n = io::read_full(STDIN_FILENO, buf);
     if n < buf.len() {

@@ -1,7 +1,7 @@
 // Decimal numbers of 64 bits.
 use crate::out::put;
 ghost use mathlib.Core.Path.{_≡_};
-ghost use Rattle.lines.specs.Number.{numberOf, numberRead, decimal};
+ghost use Rattle.lines.specs.Number.{numberOf, numberRead, decimalText};
 ghost use Rattle.lines.specs.Out.{Puts};
 
 pub enum NumberRead {
@@ -47,7 +47,7 @@ pub fn read(w: &[u8]) -> NumberRead
 
 // Writes a number with no leading zero, from `at` on.
 pub fn write(out: &mut [u8], at: usize, n: u64) -> usize
-    ensures { λ r. ⌜ Puts (now (out .entry)) at (decimal n) r (now (out .exit)) ⌝ }
+    ensures { λ r. ⌜ Puts (now (out .entry)) at (decimalText n) r (now (out .exit)) ⌝ }
 {
     let mut text = [0u8; 20];
     let k = io::decimal(n, &mut text);

@@ -4,7 +4,7 @@ ghost use Prim.Native.Nat.{_+_, _≤_};
 ghost use lib.Dec.{leb};
 ghost use lib.ListN.{length};
 ghost use Rattle.lines.specs.Out.{Puts};
-ghost use Rattle.trace.specs.Parts.{put as over};
+ghost use Rattle.little_endian.specs.Bytes.{put as over};
 
 // Whether n bytes fit from `at` on.
 pub fn has_room(out: &[u8], at: usize, n: usize) -> bool

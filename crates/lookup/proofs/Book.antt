@@ -4,7 +4,8 @@ use mathlib.Core.Path.{_≡_, ap, _∙_}
 use mathlib.Core.List.{List}
 use Rattle.answer.specs.Answer.{Answer}
 use Rattle.book.specs.Book.{Call, fresh, blank, answer, answers, become, Run}
-use Rattle.book.proofs.Theorems.{Meant, agrees}
+use Rattle.book.specs.Promises.{Meant}
+use Rattle.book.proofs.Theorems.{agrees}
 use Rattle.rules.specs.Messages.{Message}
 use Rattle.rules.specs.Questions.{Question, Value}
 use Rattle.rules.specs.Rules.{rules}

@@ -4,7 +4,8 @@ use mathlib.Core.Path.{_≡_, ap, _∙_}
 use mathlib.Core.List.{List, [], map}
 use mathlib.Core.Option.{Option}
 use lib.ListN.{length, set}
-use Rattle.memory.specs.Bytes.{put, insertAt, removeAt}
+use Rattle.little_endian.specs.Bytes.{put}
+use Rattle.memory.specs.Bytes.{insertAt, removeAt}
 use Rattle.memory.specs.State.{Now, Change, roomOf, number, devices, change}
 use Rattle.memory.proofs.Lists.{map-insertAt, map-removeAt}
 use Rattle.journal.proofs.Theorems as journal

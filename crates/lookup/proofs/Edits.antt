@@ -5,7 +5,8 @@ use mathlib.Core.Path.{_≡_, refl, sym, ap, ap₂, _∙_}
 use mathlib.Core.List.{List, []}
 use mathlib.Core.Option.{Option, some}
 use lib.ListN.{length, getD, set}
-use Rattle.memory.specs.Bytes.{put, insertAt, removeAt}
+use Rattle.little_endian.specs.Bytes.{put}
+use Rattle.memory.specs.Bytes.{insertAt, removeAt}
 use Rattle.memory.specs.Layout.{roomSize, capacity}
 use Rattle.memory.specs.State.{Change, state, change, roomOf, number}
 use Rattle.memory.proofs.Theorems as memory
@@ -44,7 +45,7 @@ module _ (m : List ℕ) (s : Sound m) (n : ℕ) (e : n ≡ length (means m .now 
   -- the device of a rank gets bytes
   module _ (i offset : ℕ) (bytes : List ℕ) (inside : offset + length bytes ≤ roomSize) (same : getD head 0 0 ≡ n) (there : i < n) where
     pub patch-able : AbleTo m (changeOf i i offset bytes head)
-    patch-able = memory.able m i i (getD head 0 0) offset (length bytes) (s .memory) (record { starts = omega (arith, few); ends = omega (arith, few); held = omega (arith, few); inside = inside })
+    patch-able = memory.able m i i (getD head 0 0) offset (length bytes) (s .memory) (record { starts = omega (arith, few); ends = omega (arith, few); counted = omega (arith, few); inside = inside })
 
     pub patched : (f : Device → Device) → Makes offset bytes f → tableOf (change (changeOf i i offset bytes head) (state m .now)) ≡ with (changeAt i f (means m .now .devices)) (some time)
     unfolding means
@@ -56,7 +57,7 @@ module _ (m : List ℕ) (s : Sound m) (n : ℕ) (e : n ≡ length (means m .now 
   -- a new device gets the first free room and a rank
   module _ (place : ℕ) (bytes : List ℕ) (inside : length bytes ≤ roomSize) (more : getD head 0 0 ≡ n + 1) (free : n < openingOf m .devices) (ranked : place ≤ n) where
     pub create-able : AbleTo m (changeOf n place 0 bytes head)
-    create-able = memory.able m n place (getD head 0 0) 0 (length bytes) (s .memory) (record { starts = omega (arith, devices-most m); ends = omega (arith, devices-most m); held = omega (arith, devices-most m); inside = omega arith })
+    create-able = memory.able m n place (getD head 0 0) 0 (length bytes) (s .memory) (record { starts = omega (arith, devices-most m); ends = omega (arith, devices-most m); counted = omega (arith, devices-most m); inside = omega arith })
 
     pub created : (v : Device) → Makes 0 bytes (λ _. v) → tableOf (change (changeOf n place 0 bytes head) (state m .now)) ≡ with (insertAt place v (means m .now .devices)) (some time)
     unfolding means
@@ -68,7 +69,7 @@ module _ (m : List ℕ) (s : Sound m) (n : ℕ) (e : n ≡ length (means m .now 
   -- the device of a rank goes, and its room is the first free one
   module _ (i k : ℕ) (less : getD head 0 0 ≡ k) (one : n ≡ k + 1) (there : i < n) where
     pub remove-able : AbleTo m (changeOf i k 0 [] head)
-    remove-able = memory.able m i k (getD head 0 0) 0 0 (s .memory) (record { starts = omega (arith, few); ends = omega (arith, few); held = omega (arith, few); inside = omega arith })
+    remove-able = memory.able m i k (getD head 0 0) 0 0 (s .memory) (record { starts = omega (arith, few); ends = omega (arith, few); counted = omega (arith, few); inside = omega arith })
 
     pub removed : tableOf (change (changeOf i k 0 [] head) (state m .now)) ≡ with (removeAt i (means m .now .devices)) (some time)
     unfolding means
@@ -79,7 +80,7 @@ module _ (m : List ℕ) (s : Sound m) (n : ℕ) (e : n ≡ length (means m .now 
   -- only the last time is another
   module _ (same : getD head 0 0 ≡ n) where
     pub time-able : AbleTo m (changeOf 0 0 0 [] head)
-    time-able = memory.able m 0 0 (getD head 0 0) 0 0 (s .memory) (record { starts = omega (arith, s .memory .header); ends = omega (arith, s .memory .header); held = omega (arith, few); inside = omega arith })
+    time-able = memory.able m 0 0 (getD head 0 0) 0 0 (s .memory) (record { starts = omega (arith, s .memory .header); ends = omega (arith, s .memory .header); counted = omega (arith, few); inside = omega arith })
 
     pub timed : tableOf (change (changeOf 0 0 0 [] head) (state m .now)) ≡ with (means m .now .devices) (some time)
     unfolding means

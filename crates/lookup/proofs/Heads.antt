@@ -1,17 +1,16 @@
 -- The head: as it is written (the number of devices, a 1, the last time in 8 bytes, zeros), and the last time read off it.
-use Prim.Native.Nat.{ℕ, _+_, _-_, _^_, _≤_, _<_, _/_, _%_}
+use Prim.Native.Nat.{ℕ, _+_, _^_, _<_}
 use native.Mathlib.Omega.{arith}
 use mathlib.Core.Path.{_≡_, refl, sym, ap, _∙_}
 use mathlib.Core.List.{List, _∷_}
 use mathlib.Core.Bool.{Bool, true, false}
 use mathlib.Core.Option.{none, some}
-use lib.ListN.{length, getD, set, take, drop, replicate}
+use lib.ListN.{length, getD, drop, replicate}
 use borrow.Author.Tests.{ne-eqb}
-use Rattle.trace.specs.Bytes.{leBytes, num, u64}
-use Rattle.trace.specs.Parts.{put}
-use Rattle.trace.proofs.Numbers.{length-leBytes, num-back}
-use Rattle.trace.proofs.Put.{put-none, put-step, all-put, drop-put}
-use Rattle.memory.specs.Bytes.{part}
+use Rattle.little_endian.specs.Bytes.{leBytes, num, u64, put, Stored}
+use Rattle.little_endian.proofs.Numbers.{num-back}
+use Rattle.little_endian.proofs.Put.{drop-put}
+use Rattle.memory.specs.Bytes.{span}
 use Rattle.memory.specs.Layout.{headAt, headSize}
 use Rattle.memory.specs.State.{state, current}
 use Rattle.device.specs.Decode.{isSet}
@@ -20,27 +19,13 @@ use Rattle.lookup.specs.Meaning.{lastFlagAt, lastAt, lastOf, tableOf, me
 abbrev untimed : ℕ → List ℕ
 untimed n = n ∷ (1 ∷ replicate 22 0)
 
--- j bytes of the time are written, and v is what is left of it
-pub record Writing (n time : ℕ) (bytes : List ℕ) (v j : ℕ) : Type 0 where
-  pub some : j ≤ 8
-  pub done : bytes ≡ put (untimed n) lastAt (take j (leBytes 8 time))
-  pub rest : drop j (leBytes 8 time) ≡ leBytes (8 - j) v
+module _ (n time : ℕ) (bytes : List ℕ) (w : Stored (untimed n) lastAt 8 time bytes) where
+  whole : bytes ≡ put (untimed n) lastAt (leBytes 8 time)
+  whole = w .written (omega arith)
 
-pub writing-none : (n time : ℕ) → Writing n time (untimed n) time 0
-writing-none n time = record { some = omega arith; done = put-none (untimed n) lastAt; rest = refl }
-
-module _ (n time : ℕ) (bytes : List ℕ) (v j : ℕ) (w : Writing n time bytes v j) where
-  pub writing-one : j < 8 → Writing n time (set bytes (lastAt + j) (v % 256)) (v / 256) (j + 1)
-  writing-one h =
-      let s = put-step (untimed n) (leBytes 8 time) bytes lastAt 8 v j (length-leBytes 8 time) (omega arith) h (w .done) (w .rest) in
-      record { some = omega arith; done = s .0; rest = s .1 }
-
-  whole : 8 ≤ j → bytes ≡ put (untimed n) lastAt (leBytes 8 time)
-  whole h = all-put (untimed n) (leBytes 8 time) bytes lastAt j (omega (arith, length-leBytes 8 time)) (w .done)
-
-  pub counts : 8 ≤ j → getD bytes 0 0 ≡ n
+  pub counts : getD bytes 0 0 ≡ n
   unfolding put
-  counts h = ap (λ (l : List ℕ). getD l 0 0) (whole h)
+  counts = ap (λ (l : List ℕ). getD l 0 0) whole
 
   time-is : time < 256 ^ 8 → num 8 lastAt (put (untimed n) lastAt (leBytes 8 time)) ≡ time
   time-is h = num-back 8 lastAt time (put (untimed n) lastAt (leBytes 8 time)) (drop (lastAt + length (leBytes 8 time)) (untimed n)) (drop-put (untimed n) lastAt (leBytes 8 time) (omega arith)) h
@@ -49,15 +34,15 @@ module _ (n time : ℕ) (bytes : List ℕ) (v j : ℕ) (w : Writing n time bytes
   unfolding lastOf isSet put
   flagged = refl
 
-  pub last-is : 8 ≤ j → time < 256 ^ 8 → lastOf bytes ≡ some time
-  last-is h k = ap lastOf (whole h) ∙ flagged ∙ ap (λ (t : ℕ). some t) (time-is k)
+  pub last-is : time < 256 ^ 8 → lastOf bytes ≡ some time
+  last-is h = ap lastOf whole ∙ flagged ∙ ap (λ (t : ℕ). some t) (time-is h)
 
 -- the last time, read off the head t of memory, whose flag is x
 by-flag : (t : List ℕ) (b : Bool) → isSet t lastFlagAt ≡ b → lastOf t ≡ elim b [ true ↦ some (u64 t lastAt) | false ↦ none ]
 unfolding lastOf
 by-flag t b h = rw (h, lastOf)
 
-module _ (m t : List ℕ) (x : ℕ) (e : t ≡ part m headAt headSize) (f : x ≡ getD t lastFlagAt 0) where
+module _ (m t : List ℕ) (x : ℕ) (e : t ≡ span m headAt headSize) (f : x ≡ getD t lastFlagAt 0) where
   last-read : lastOf t ≡ means m .now .last
   unfolding means tableOf state current
   last-read = ap lastOf e

@@ -6,16 +6,16 @@ use mathlib.Core.Bool.{Bool, true, false}
 use mathlib.Core.List.{List, []}
 use lib.ListN.{length, getD, drop, length-take, length-drop, List·getD-eq-default}
 use lib.Seq.{getD-take}
-use Rattle.memory.specs.Bytes.{part}
+use Rattle.memory.specs.Bytes.{span}
 use Rattle.memory.specs.Layout.{roomSize, roomAt, headAt, headSize, orderAt, capacity, count, slot}
 use Rattle.memory.specs.Sound.{Sound}
 use Rattle.memory.specs.State.{order, room, current, state, roomOf, number, devices}
-use Rattle.memory.proofs.Flat.{getD-part}
+use Rattle.memory.proofs.Flat.{getD-span}
 use Rattle.memory.proofs.Lists.{length-map, getD-map}
 use Rattle.memory.proofs.Theorems as memory
 use Rattle.rules.specs.Table.{Device}
 use Rattle.rules.specs.Find.{firstAt}
-use Rattle.device.specs.Layout.{idMost}
+use Rattle.text.specs.Ids.{idMost}
 use Rattle.device.specs.Decode.{textAt, deviceOf}
 use Rattle.lookup.specs.Meaning.{tableOf, means}
 use Rattle.lookup.proofs.Ids.{id-in-room}
@@ -24,16 +24,16 @@ use Rattle.lookup.proofs.Lists.{Passed}
 
 -- ---- the order
 
-pub slots-are : (m t : List ℕ) (d : ℕ) → d ≡ capacity m → t ≡ part m orderAt d → length t ≡ length (order m)
+pub slots-are : (m t : List ℕ) (d : ℕ) → d ≡ capacity m → t ≡ span m orderAt d → length t ≡ length (order m)
 unfolding order
 slots-are m t d e f = rw (f, e)
 
 pub slots-few : (m : List ℕ) → length (order m) ≤ capacity m
-unfolding order part
+unfolding order span
 slots-few m = omega (arith, length-take (capacity m) (drop orderAt m))
 
 pub slot-inside : (m : List ℕ) (i : ℕ) → i < length (order m) → orderAt + i < length m
-unfolding order part
+unfolding order span
 slot-inside m i h = omega (arith, length-take (capacity m) (drop orderAt m), length-drop orderAt m)
 
 rooms-length : (m : List ℕ) → length (state m .now .rooms) ≡ length (order m)
@@ -42,11 +42,11 @@ rooms-length m = length-map (room m) (order m)
 
 -- ---- the rooms
 
-pub room-is : (m : List ℕ) (i at : ℕ) → i < length (order m) → at ≡ roomAt (slot m i) → part m at roomSize ≡ roomOf (state m .now) i
+pub room-is : (m : List ℕ) (i at : ℕ) → i < length (order m) → at ≡ roomAt (slot m i) → span m at roomSize ≡ roomOf (state m .now) i
 unfolding state current room order
 room-is m i at h e =
-    ap (λ (a : ℕ). part m a roomSize) e
-    ∙ sym (getD-map (room m) (order m) i 0 [] h ∙ ap (room m) (getD-part m orderAt (capacity m) i (omega (arith, slots-few m))))
+    ap (λ (a : ℕ). span m a roomSize) e
+    ∙ sym (getD-map (room m) (order m) i 0 [] h ∙ ap (room m) (getD-span m orderAt (capacity m) i (omega (arith, slots-few m))))
 
 pub id-is : (m : List ℕ) (i at : ℕ) → i < length (order m) → at ≡ roomAt (slot m i) → textAt m at idMost ≡ deviceOf (roomOf (state m .now) i) .id
 id-is m i at h e = id-in-room m at ∙ ap (λ (t : List ℕ). deviceOf t .id) (room-is m i at h e)
@@ -58,7 +58,7 @@ room-none m i h = sym (List·getD-eq-default (state m .now .rooms) [] {n = i} (o
 
 number-is : (m : List ℕ) → number (state m .now) ≡ count m
 unfolding state current
-number-is m = getD-part m headAt headSize 0 (omega arith)
+number-is m = getD-span m headAt headSize 0 (omega arith)
 
 devices-length : (m : List ℕ) → length (means m .now .devices) ≡ min (count m) (length (order m))
 unfolding means tableOf

@@ -58,12 +58,12 @@ module _ (m m′ : List ℕ) (c : Change) (e : state m′ ≡ made c (state m)) 
 
 -- ---- a step back
 
-popped-is : (d : List ℕ) (n : ℕ) (s : memory.State) (ts : List Now) → meant (memory.stepped s ts) ≡ popped (rules d n) (meant s) (map tableOf ts)
+popped-is : (d : List ℕ) (n : ℕ) (s : memory.State) (ts : List Now) → meant (memory.undoneTo s ts) ≡ popped (rules d n) (meant s) (map tableOf ts)
 unfolding meant
 popped-is d n s [] = refl
 popped-is d n s (t ∷ ts) = refl
 
-opening-stays : (s : memory.State) (ts : List Now) → opened-with (memory.stepped s ts) ≡ opened-with s
+opening-stays : (s : memory.State) (ts : List Now) → opened-with (memory.undoneTo s ts) ≡ opened-with s
 unfolding opened-with
 opening-stays s [] = refl
 opening-stays s (t ∷ ts) = refl

@@ -34,8 +34,8 @@ isTaken (refused n) = false
 isTaken (gives v) = saysTaken v
 
 -- Free in the memory after a call is taken: what `state` forgets (crate journal, specs/Contract), and what `means` forgets besides.
---   In a device's room: bytes behind the length of a byte string, 118 to 511, records past the number of properties, 305 to 319 of each record, the
---   time of an empty lane, and without a description all from 43 on. In the head: the 14 bytes behind the last time, and the time where there is none.
+--   In a device's room: bytes behind the length of a byte string, 42 to 402, 479 to 511, records past the number of properties, 305 to 319 of each record, the
+--   time of an empty lane, and without a description all from 404 on. In the head: the 14 bytes behind the last time, and the time where there is none.
 --   The rooms of no device. And which of the values that mean the same a byte has: a flag that is not 0, a length above its limit, a number past the last.
 -- Answers are functions of `openingOf` and `means`, so no choice of these changes an answer.
 

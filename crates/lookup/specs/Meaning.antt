@@ -5,11 +5,11 @@ use mathlib.Core.List.{List, map}
 use mathlib.Core.Bool.{true, false}
 use mathlib.Core.Option.{Option, none, some}
 use Rattle.text.specs.Ids.{isId}
-use Rattle.trace.specs.Bytes.{u64}
+use Rattle.little_endian.specs.Bytes.{u64}
 use Rattle.memory.specs.Sound as soundness
 use Rattle.memory.specs.State.{Now, devices, state}
 use Rattle.book.specs.Book.{State}
-use Rattle.rules.specs.Table.{Table}
+use Rattle.rules.specs.Table.{Device, Table}
 use Rattle.device.specs.Decode.{isSet, deviceOf}
 use Rattle.lookup.specs.declared.LastTime.{LastTime}
 use Rattle.lookup.specs.declared.LastTime.the-variants.{Never, At}
@@ -48,3 +48,6 @@ openingOf m = record { domain = state m .domain; devices = state m .capacity; de
 
 unfoldable pub means : List ℕ → State Table
 means m = record { now = tableOf (state m .now); past = map tableOf (state m .past) }
+
+abbrev pub devicesIn : List ℕ → List Device
+devicesIn m = means m .now .devices

@@ -6,21 +6,18 @@ ghost use mathlib.Core.Option.{some};
 ghost use Prim.Native.Nat.{_^_, _<_};
 ghost use lib.ListN.{length, getD};
 ghost use Rattle.text.specs.Bytes.{eqBytes, lessBytes};
-ghost use Rattle.memory.specs.Bytes.{part};
+ghost use Rattle.memory.specs.Bytes.{span};
 ghost use Rattle.memory.specs.State.{order, roomOf, state};
 ghost use Rattle.rules.specs.Find.{firstAt};
-ghost use Rattle.device.specs.Layout.{idMost};
+ghost use Rattle.text.specs.Ids.{idMost};
 ghost use Rattle.device.specs.Decode.{textAt, deviceOf};
-ghost use Rattle.lookup.specs.Meaning.{Sound, lastOf, lastIs, openingOf, means};
+ghost use Rattle.lookup.specs.Meaning.{Sound, lastOf, lastIs, openingOf, means, devicesIn};
 use memory::HEAD_SIZE;
 
 // The head: see specs/Meaning.antt.
 const LAST_FLAG: usize = 1;
 
 const LAST: usize = 2;
-
-// The most bytes of an ID.
-const ID_MOST: usize = 32;
 
 // The last time, or none.
 pub enum LastTime {
@@ -36,7 +33,7 @@ fn wide(x: u8) -> usize
 
 // The bytes from a place on, as many as asked for, as far as there are any.
 fn cut(mem: &[u8], at: usize, n: usize) -> &[u8]
-    ensures { λ r. ⌜ now r ≡ part (now (mem .entry)) at n ⌝ }
+    ensures { λ r. ⌜ now r ≡ span (now (mem .entry)) at n ⌝ }
 {
     if mem.len() <= at {
         return &mem[..0];
@@ -75,7 +72,7 @@ fn slots(mem: &[u8]) -> usize
 
 // How many devices there are.
 pub fn count(mem: &[u8]) -> u8
-    ensures { λ r. ⌜ r ≡ length (means (now (mem .entry)) .now .devices) ⌝ }
+    ensures { λ r. ⌜ r ≡ length (devicesIn (now (mem .entry))) ⌝ }
 {
     let d = slots(mem);
     let n = memory::byte(mem, memory::HEAD);
@@ -98,10 +95,10 @@ fn id_from(mem: &[u8], at: usize) -> &[u8]
     ensures { λ r. ⌜ now r ≡ textAt (now (mem .entry)) at idMost ⌝ }
 {
     let n = wide(memory::byte(mem, at));
-    if n < ID_MOST {
+    if n < text::Id::MAX {
         return cut(mem, at + 1, n);
     }
-    cut(mem, at + 1, ID_MOST)
+    cut(mem, at + 1, text::Id::MAX)
 }
 
 // The ID in the room at a place of the order.
@@ -133,7 +130,7 @@ fn has_id(mem: &[u8], i: u8, id: &[u8]) -> bool
     requires { ⌜ i < length (order (now mem)) ⌝ }
     ensures { λ r. ⌜ r ≡ eqBytes (deviceOf (roomOf (state (now (mem .entry)) .now) i) .id) (now (id .entry)) ⌝ }
 {
-    let start = memory::ROOM + memory::ROOM * wide(mem[memory::ORDER + i as usize]);
+    let start = memory::room_at(mem[memory::ORDER + i as usize]);
     if ends_otherwise(mem, start, id) {
         return false;
     }
@@ -142,7 +139,7 @@ fn has_id(mem: &[u8], i: u8, id: &[u8]) -> bool
 
 // The rank of the device with an ID; the number of devices where there is none.
 pub fn find(mem: &[u8], id: &[u8]) -> u8
-    ensures { λ r. ⌜ r ≡ firstAt (λ v. eqBytes (v .id) (now (id .entry))) (means (now (mem .entry)) .now .devices) ⌝ }
+    ensures { λ r. ⌜ r ≡ firstAt (λ v. eqBytes (v .id) (now (id .entry))) (devicesIn (now (mem .entry))) ⌝ }
 {
     let n = count(mem);
     let mut i = 0;
@@ -157,7 +154,7 @@ pub fn find(mem: &[u8], id: &[u8]) -> u8
 
 // The rank of a new device with an ID: that of the first device with a larger one.
 pub fn place_for(mem: &[u8], id: &[u8]) -> u8
-    ensures { λ r. ⌜ r ≡ firstAt (λ v. lessBytes (now (id .entry)) (v .id)) (means (now (mem .entry)) .now .devices) ⌝ }
+    ensures { λ r. ⌜ r ≡ firstAt (λ v. lessBytes (now (id .entry)) (v .id)) (devicesIn (now (mem .entry))) ⌝ }
 {
     let n = count(mem);
     let mut place = 0;
@@ -178,7 +175,7 @@ pub fn last(mem: &[u8]) -> LastTime
     if memory::byte(head, LAST_FLAG) == 0 {
         return LastTime::Never;
     }
-    LastTime::At(device::number_at(head, LAST))
+    LastTime::At(little_endian::get(head, LAST, 8))
 }
 
 // The head of a table with n devices and this last time. Free: which value but 0 its flag has, and the 14 bytes behind the time.
@@ -188,12 +185,6 @@ pub fn head(n: u8, time: u64) -> [u8; HEAD_SIZE]
     let mut bytes = [0u8; HEAD_SIZE];
     bytes[0] = n;
     bytes[LAST_FLAG] = 1;
-    let mut v = time;
-    let mut j: usize = 0;
-    while j < 8 {
-        bytes[LAST + j] = (v % 256) as u8;
-        v = v / 256;
-        j += 1;
-    }
+    little_endian::set(&mut bytes, LAST, 8, time);
     bytes
 }

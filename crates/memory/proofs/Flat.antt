@@ -1,43 +1,53 @@
--- Memory: parts of it, and bytes put over others.
+-- Memory: parts of it, numbers in it, and bytes put over others.
 use Prim.Native.Nat.{ℕ, _+_, _-_, _≤_, _<_}
 use native.Mathlib.Omega.{arith}
 use native.Mathlib.Decide.{decLt}
 use mathlib.Core.Path.{_≡_, refl, sym, ap, _∙_, subst}
 use mathlib.Core.List.{List, _++_}
 use lib.ListN.{length, getD, set, take, drop, length-append, length-take, length-drop, List·getD-append}
-use lib.Seq.{getD-append-add, getD-take, getD-drop, getD-set-same, getD-set-other, ext-getD, length-take-le}
-use Rattle.memory.specs.Bytes.{part, put}
+use lib.Seq.{getD-append-add, getD-take, getD-drop, getD-set-same, getD-set-other, ext-getD, length-take-le, drop-drop}
+use Rattle.little_endian.specs.Bytes.{le, num, put}
+use Rattle.little_endian.proofs.Put.{length-put}
+use Rattle.memory.specs.Bytes.{span}
 
 -- m′ has the bytes of m from a to b
 abbrev pub Same : List ℕ → List ℕ → ℕ → ℕ → Type 0
 Same m m′ a b = (i : ℕ) → a ≤ i → i < b → getD m′ i 0 ≡ getD m i 0
 
-pub getD-part : (m : List ℕ) (a n i : ℕ) → i < n → getD (part m a n) i 0 ≡ getD m (a + i) 0
-unfolding part
-getD-part m a n i h = getD-take n (drop a m) i 0 h ∙ getD-drop a m i 0
+pub getD-span : (m : List ℕ) (a n i : ℕ) → i < n → getD (span m a n) i 0 ≡ getD m (a + i) 0
+unfolding span
+getD-span m a n i h = getD-take n (drop a m) i 0 h ∙ getD-drop a m i 0
 
-pub length-part : (m : List ℕ) (a n : ℕ) → a + n ≤ length m → length (part m a n) ≡ n
-unfolding part
-length-part m a n h = length-take-le n (drop a m) (rw (length-drop a m) (omega arith))
+pub length-span : (m : List ℕ) (a n : ℕ) → a + n ≤ length m → length (span m a n) ≡ n
+unfolding span
+length-span m a n h = length-take-le n (drop a m) (rw (length-drop a m) (omega arith))
 
 -- a part that holds the list ys
-pub part-is : (m ys : List ℕ) (a n : ℕ) → a + n ≤ length m → length ys ≡ n → ((i : ℕ) → i < n → getD m (a + i) 0 ≡ getD ys i 0) → part m a n ≡ ys
-part-is m ys a n l e h =
-    ext-getD 0 (part m a n) ys (length-part m a n l ∙ sym e)
-    (λ i q. let k : i < n = subst (λ (x : ℕ). i < x) (length-part m a n l) q in getD-part m a n i k ∙ h i k)
+pub span-is : (m ys : List ℕ) (a n : ℕ) → a + n ≤ length m → length ys ≡ n → ((i : ℕ) → i < n → getD m (a + i) 0 ≡ getD ys i 0) → span m a n ≡ ys
+span-is m ys a n l e h =
+    ext-getD 0 (span m a n) ys (length-span m a n l ∙ sym e)
+    (λ i q. let k : i < n = subst (λ (x : ℕ). i < x) (length-span m a n l) q in getD-span m a n i k ∙ h i k)
 
 -- two parts with the same bytes
-pub part-same : (m m′ : List ℕ) (a a′ n : ℕ) → a + n ≤ length m → a′ + n ≤ length m′ → ((i : ℕ) → i < n → getD m′ (a′ + i) 0 ≡ getD m (a + i) 0) → part m′ a′ n ≡ part m a n
-part-same m m′ a a′ n l l′ h = part-is m′ (part m a n) a′ n l′ (length-part m a n l) (λ i q. h i q ∙ sym (getD-part m a n i q))
+pub span-same : (m m′ : List ℕ) (a a′ n : ℕ) → a + n ≤ length m → a′ + n ≤ length m′ → ((i : ℕ) → i < n → getD m′ (a′ + i) 0 ≡ getD m (a + i) 0) → span m′ a′ n ≡ span m a n
+span-same m m′ a a′ n l l′ h = span-is m′ (span m a n) a′ n l′ (length-span m a n l) (λ i q. h i q ∙ sym (getD-span m a n i q))
 
-pub part-kept : (m m′ : List ℕ) (a n : ℕ) → length m′ ≡ length m → a + n ≤ length m → Same m m′ a (a + n) → part m′ a n ≡ part m a n
-part-kept m m′ a n e l s = part-same m m′ a a n l (omega arith) (λ i h. s (a + i) (omega arith) (omega arith))
+pub span-kept : (m m′ : List ℕ) (a n : ℕ) → length m′ ≡ length m → a + n ≤ length m → Same m m′ a (a + n) → span m′ a n ≡ span m a n
+span-kept m m′ a n e l s = span-same m m′ a a n l (omega arith) (λ i h. s (a + i) (omega arith) (omega arith))
+
+-- the numbers in them
+pub num-same : (m m′ : List ℕ) (a a′ w : ℕ) → a + w ≤ length m → a′ + w ≤ length m′ → ((i : ℕ) → i < w → getD m′ (a′ + i) 0 ≡ getD m (a + i) 0) → num w a′ m′ ≡ num w a m
+unfolding num span
+num-same m m′ a a′ w l l′ h = ap le (span-same m m′ a a′ w l l′ h)
+
+pub num-kept : (m m′ : List ℕ) (a w : ℕ) → length m′ ≡ length m → a + w ≤ length m → Same m m′ a (a + w) → num w a m′ ≡ num w a m
+num-kept m m′ a w e l s = num-same m m′ a a w l (omega arith) (λ i h. s (a + i) (omega arith) (omega arith))
 
 -- a part of a part
-pub part-part : (m : List ℕ) (a n b k : ℕ) → a + n ≤ length m → b + k ≤ n → part (part m a n) b k ≡ part m (a + b) k
-part-part m a n b k l h =
-    part-same m (part m a n) (a + b) b k (omega arith) (omega (arith, length-part m a n l))
-    (λ i q. getD-part m a n (b + i) (omega arith) ∙ ap (λ (x : ℕ). getD m x 0) (omega arith))
+pub span-span : (m : List ℕ) (a n b k : ℕ) → a + n ≤ length m → b + k ≤ n → span (span m a n) b k ≡ span m (a + b) k
+span-span m a n b k l h =
+    span-same m (span m a n) (a + b) b k (omega arith) (omega (arith, length-span m a n l))
+    (λ i q. getD-span m a n (b + i) (omega arith) ∙ ap (λ (x : ℕ). getD m x 0) (omega arith))
 
 -- memory that is the same from a on
 pub drop-same : (m m′ : List ℕ) (a : ℕ) → length m′ ≡ length m → ((i : ℕ) → a ≤ i → getD m′ i 0 ≡ getD m i 0) → drop a m′ ≡ drop a m
@@ -79,31 +89,31 @@ module _ (m ys : List ℕ) (a n : ℕ) (fits : a + n ≤ length m) (len : length
       ∙ getD-drop a m (n + (i - (a + n))) 0
       ∙ ap (λ (k : ℕ). getD m k 0) (omega arith)
 
-  pub back-part : part back a n ≡ ys
-  back-part = part-is back ys a n (omega (arith, back-length)) len back-in
+  pub back-span : span back a n ≡ ys
+  back-span = span-is back ys a n (omega (arith, back-length)) len back-in
 
 -- a list with bytes put over it
 module _ (r bs : List ℕ) (a : ℕ) (fits : a + length bs ≤ length r) where
-  pub length-put : length (put r a bs) ≡ length r
+  put-lent : put r a bs ≡ back r bs a (length bs) fits refl
   unfolding put
-  length-put = back-length r bs a (length bs) fits refl
+  put-lent = ap (λ (x : List ℕ). take a r ++ (bs ++ x)) (sym (drop-drop (length bs) a r))
+
+  byte-put : (i : ℕ) → getD (put r a bs) i 0 ≡ getD (back r bs a (length bs) fits refl) i 0
+  byte-put i = ap (λ (x : List ℕ). getD x i 0) put-lent
 
   pub put-below : (i : ℕ) → i < a → getD (put r a bs) i 0 ≡ getD r i 0
-  unfolding put
-  put-below = back-below r bs a (length bs) fits refl
+  put-below i h = byte-put i ∙ back-below r bs a (length bs) fits refl i h
 
   pub put-in : (i : ℕ) → i < length bs → getD (put r a bs) (a + i) 0 ≡ getD bs i 0
-  unfolding put
-  put-in = back-in r bs a (length bs) fits refl
+  put-in i h = byte-put (a + i) ∙ back-in r bs a (length bs) fits refl i h
 
   pub put-above : (i : ℕ) → a + length bs ≤ i → getD (put r a bs) i 0 ≡ getD r i 0
-  unfolding put
-  put-above = back-above r bs a (length bs) fits refl
+  put-above i h = byte-put i ∙ back-above r bs a (length bs) fits refl i h
 
   -- a list is that list with those bytes put over it, by its bytes
   pub put-is : (r′ : List ℕ) → length r′ ≡ length r → ((i : ℕ) → i < a → getD r′ i 0 ≡ getD r i 0) → ((i : ℕ) → i < length bs → getD r′ (a + i) 0 ≡ getD bs i 0)
       → ((i : ℕ) → a + length bs ≤ i → i < length r → getD r′ i 0 ≡ getD r i 0) → r′ ≡ put r a bs
-  put-is r′ e x y z = ext-getD 0 r′ (put r a bs) (e ∙ sym length-put) (λ i l. elim (decLt i a) as (λ _. getD r′ i 0 ≡ getD (put r a bs) i 0) [
+  put-is r′ e x y z = ext-getD 0 r′ (put r a bs) (e ∙ sym (length-put r a bs fits)) (λ i l. elim (decLt i a) as (λ _. getD r′ i 0 ≡ getD (put r a bs) i 0) [
     | yes h ↦ x i h ∙ sym (put-below i h)
     | no h ↦ elim (decLt i (a + length bs)) as (λ _. getD r′ i 0 ≡ getD (put r a bs) i 0) [
       | yes k ↦ (let q : a + (i - a) ≡ i = omega arith in
@@ -113,11 +123,11 @@ module _ (r bs : List ℕ) (a : ℕ) (fits : a + length bs ≤ length r) where
   ])
 
 -- the old bytes put back
-pub put-back : (r bs : List ℕ) (a : ℕ) → a + length bs ≤ length r → put (put r a bs) a (part r a (length bs)) ≡ r
+pub put-back : (r bs : List ℕ) (a : ℕ) → a + length bs ≤ length r → put (put r a bs) a (span r a (length bs)) ≡ r
 put-back r bs a fits =
-    let e : length (part r a (length bs)) ≡ length bs = length-part r a (length bs) fits in
-    let l : length (put r a bs) ≡ length r = length-put r bs a fits in
-    sym (put-is (put r a bs) (part r a (length bs)) a (omega arith) r (sym l)
+    let e : length (span r a (length bs)) ≡ length bs = length-span r a (length bs) fits in
+    let l : length (put r a bs) ≡ length r = length-put r a bs fits in
+    sym (put-is (put r a bs) (span r a (length bs)) a (omega arith) r (sym l)
     (λ i h. sym (put-below r bs a fits i h))
-    (λ i h. sym (getD-part r a (length bs) i (omega arith)))
+    (λ i h. sym (getD-span r a (length bs) i (omega arith)))
     (λ i h k. sym (put-above r bs a fits i (omega arith))))

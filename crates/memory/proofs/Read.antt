@@ -5,28 +5,28 @@ use mathlib.Core.Path.{_≡_, refl, ap, _∙_}
 use mathlib.Core.List.{List, [], _∷_}
 use lib.ListN.{length, getD}
 use Rattle.memory.specs.Layout.{roomSize, roomAt, orderAt, capacity, depth, next, steps, slot}
-use Rattle.memory.specs.Sound.{Header, FitsAt}
+use Rattle.memory.specs.Sound.{Header, EntryFits}
 use Rattle.memory.specs.State.{Now, Change, change, order, room, current, roomOf, entry, entries, place, pasts, state}
 use Rattle.memory.proofs.Lists.{length-map, getD-map, length-tab}
-use Rattle.memory.proofs.Flat.{length-part, getD-part}
+use Rattle.memory.proofs.Flat.{length-span, getD-span}
 
 -- the state, byte by byte
 module _ (m : List ℕ) (h : Header m) where
   -- every entry reads as a change that the rooms can take
-  pub fitting : (p : ℕ) → FitsAt m p
+  pub fitting : (p : ℕ) → EntryFits m p
   fitting p = omega (arith, h)
 
   pub length-order : length (order m) ≡ capacity m
   unfolding order
-  length-order = length-part m orderAt (capacity m) (omega (arith, h))
+  length-order = length-span m orderAt (capacity m) (omega (arith, h))
 
   pub order-is : (i : ℕ) → i < capacity m → getD (order m) i 0 ≡ slot m i
   unfolding order
-  order-is i l = getD-part m orderAt (capacity m) i l
+  order-is i l = getD-span m orderAt (capacity m) i l
 
   pub length-room : (k : ℕ) → k < capacity m → length (room m k) ≡ roomSize
   unfolding room
-  length-room k l = length-part m (roomAt k) roomSize (omega (arith, h))
+  length-room k l = length-span m (roomAt k) roomSize (omega (arith, h))
 
   pub length-rooms : length (current m .rooms) ≡ capacity m
   unfolding current

@@ -8,7 +8,7 @@ use mathlib.Core.List.{List}
 use lib.Dec.{eqb}
 use lib.ListN.{getD, set, length-set, replicate, length-replicate, getD-replicate}
 use borrow.Author.Tests.{eq-eqb, ne-eqb}
-use Rattle.memory.specs.Sound.{Orderly}
+use Rattle.memory.specs.Sound.{Permutation}
 use Rattle.memory.specs.Parts.{hit, Hits, total}
 use Rattle.memory.proofs.Judge.{Decides, by-equal}
 use Rattle.memory.proofs.Lists.{same?}
@@ -123,24 +123,24 @@ module _ (order : ℕ → ℕ) where
       ]
     ]
 
-    all-marked : sum d ≡ d → Orderly d order
+    all-marked : sum d ≡ d → Permutation d order
     all-marked e = record {
       slots = λ i h. full d e i h .below;
       apart = λ i k x h q. never-hit k (order k) (full d e k h .free) i x q;
     }
 
-    all : Orderly d order → (t : ℕ) → t ≤ d → sum t ≡ t
+    all : Permutation d order → (t : ℕ) → t ≤ d → sum t ≡ t
     all o zero h = none d
     all o (suc t) h = omega (arith, all o t (omega arith), new t (o .slots t h) (hit-none t (order t) (λ i x q. o .apart i t x h q)) .more)
 
-    marks-all : Orderly d order → sum d ≡ d
+    marks-all : Permutation d order → sum d ≡ d
     marks-all o = all o d (omega arith)
 
   pub hits-most : (t : ℕ) (seen : List ℕ) → Hits order t seen → (s : ℕ) → s < 256 → getD seen s 0 ≤ 1
   hits-most t seen h s l = omega (arith, h .each s l, hit-most t s)
 
   -- the number of marks below d tells
-  pub counted : (d : ℕ) (seen : List ℕ) (n : ℕ) → d ≤ 256 → Hits order d seen → n ≡ total (λ s. getD seen s 0) d → Decides (eqb n d) (Orderly d order)
+  pub counted : (d : ℕ) (seen : List ℕ) (n : ℕ) → d ≤ 256 → Hits order d seen → n ≡ total (λ s. getD seen s 0) d → Decides (eqb n d) (Permutation d order)
   counted d seen n l h e =
       let q : total (λ (s : ℕ). getD seen s 0) d ≡ total (hit order d) d = total-same (hit order d) (λ (s : ℕ). getD seen s 0) d (λ k x. h .each k (omega arith)) in
       by-equal n d (λ z. all-marked d (omega (arith, e, q, z))) (λ o. omega (arith, e, q, marks-all d o))

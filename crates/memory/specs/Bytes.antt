@@ -1,15 +1,11 @@
--- Lists of bytes and of rooms: a part, bytes put over others, an element moved, a list by its elements.
+-- Lists of bytes and of rooms: a part, an element moved, a list by its elements.
 use Prim.Native.Nat.{ℕ, zero, suc}
-use mathlib.Core.List.{List, [], _∷_, _++_}
-use lib.ListN.{length, getD, take, drop}
+use mathlib.Core.List.{List, [], _∷_}
+use lib.ListN.{getD, take, drop}
 
 -- the n bytes of m from a on
-unfoldable pub part : List ℕ → ℕ → ℕ → List ℕ
-part m a n = take n (drop a m)
-
--- m with s put over its bytes from a on
-unfoldable pub put : List ℕ → ℕ → List ℕ → List ℕ
-put m a s = take a m ++ (s ++ drop (length s) (drop a m))
+unfoldable pub span : List ℕ → ℕ → ℕ → List ℕ
+span m a n = take n (drop a m)
 
 -- l without its element at k; l with y put in at k
 unfoldable pub removeAt : {A : Type 0} → ℕ → List A → List A

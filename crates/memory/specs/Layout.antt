@@ -2,6 +2,8 @@
 use Prim.Native.Nat.{ℕ, _+_, _-_, _*_, min}
 use mathlib.Core.List.{List}
 use lib.ListN.{getD}
+use Rattle.little_endian.specs.Bytes.{u16}
+use Rattle.text.specs.Ids.{idMost}
 
 -- paper 01, "The table": "the room of one device is 8,192 bytes"
 abbrev pub roomSize : ℕ
@@ -33,12 +35,12 @@ stepsAt = 4
 abbrev pub domainLengthAt : ℕ
 domainLengthAt = 5
 
--- the domain: 1 to 32 bytes
+-- the domain, an ID
 abbrev pub domainAt : ℕ
 domainAt = 8
 
 abbrev pub domainMost : ℕ
-domainMost = 32
+domainMost = idMost
 
 -- the head, copied whole by each step: first the number of devices, then what the user of this crate keeps there
 abbrev pub headAt : ℕ
@@ -94,9 +96,6 @@ size m = imageAt (capacity m) (depth m)
 abbrev pub entryAt : ℕ → ℕ
 entryAt p = entriesAt + entrySize * p
 
-abbrev pub two : List ℕ → ℕ → ℕ
-two m a = getD m a 0 + 256 * getD m (a + 1) 0
-
 abbrev pub fromOf : List ℕ → ℕ → ℕ
 fromOf m p = min (getD m (entryAt p) 0) (capacity m - 1)
 
@@ -104,10 +103,10 @@ abbrev pub toOf : List ℕ → ℕ → ℕ
 toOf m p = min (getD m (entryAt p + 1) 0) (capacity m - 1)
 
 abbrev pub offsetOf : List ℕ → ℕ → ℕ
-offsetOf m p = min (two m (entryAt p + 2)) roomSize
+offsetOf m p = min (u16 m (entryAt p + 2)) roomSize
 
 abbrev pub lengthOf : List ℕ → ℕ → ℕ
-lengthOf m p = min (two m (entryAt p + 4)) (roomSize - offsetOf m p)
+lengthOf m p = min (u16 m (entryAt p + 4)) (roomSize - offsetOf m p)
 
 abbrev pub headOf : ℕ → ℕ
 headOf p = entryAt p + 8

@@ -13,7 +13,7 @@ pub record Counters (m : List ℕ) : Type 0 where
   pub offer : steps m ≤ depth m
   pub named : 1 ≤ domainLength m
   pub short : domainLength m ≤ domainMost
-  pub held : count m ≤ capacity m
+  pub counted : count m ≤ capacity m
 
 -- 1 if one of the first t of an order is s, else 0
 unfoldable pub hit : (ℕ → ℕ) → ℕ → ℕ → ℕ

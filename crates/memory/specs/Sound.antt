@@ -16,31 +16,31 @@ pub record Header (m : List ℕ) : Type 0 where
   pub offer : steps m ≤ depth m
   pub named : 1 ≤ domainLength m
   pub short : domainLength m ≤ domainMost
-  pub held : count m ≤ capacity m
+  pub counted : count m ≤ capacity m
   pub long : size m ≤ length m
 
 -- an order of d rooms names each of them once
-pub record Orderly (d : ℕ) (order : ℕ → ℕ) : Type 0 where
+pub record Permutation (d : ℕ) (order : ℕ → ℕ) : Type 0 where
   pub slots : (i : ℕ) → i < d → order i < d
   pub apart : (i k : ℕ) → i < k → k < d → order i ≡ order k → ⊥
 
 -- a change that d rooms can take: from a place of the order, to a place, n devices then, len bytes from an offset of a room on
-pub record Fits (d from to n offset len : ℕ) : Type 0 where
+pub record ChangeFits (d from to n offset len : ℕ) : Type 0 where
   pub starts : from < d
   pub ends : to < d
-  pub held : n ≤ d
+  pub counted : n ≤ d
   pub inside : offset + len ≤ roomSize
 
-abbrev pub FitsAt : List ℕ → ℕ → Type 0
-FitsAt m p = Fits (capacity m) (fromOf m p) (toOf m p) (countOf m p) (offsetOf m p) (lengthOf m p)
+abbrev pub EntryFits : List ℕ → ℕ → Type 0
+EntryFits m p = ChangeFits (capacity m) (fromOf m p) (toOf m p) (countOf m p) (offsetOf m p) (lengthOf m p)
 
 -- the whole rule: the header and the order; every entry of the ring reads as one that fits, so the rule does not look at them
 pub record Sound (m : List ℕ) : Type 0 where
   pub header : Header m
-  pub orderly : Orderly (capacity m) (slot m)
+  pub permuted : Permutation (capacity m) (slot m)
 
 -- what a change needs: the header's rule, a fitting change, and a slot that is one
 pub record Able (m : List ℕ) (from to n offset len : ℕ) : Type 0 where
   pub header : Header m
-  pub fits : Fits (capacity m) from to n offset len
+  pub fits : ChangeFits (capacity m) from to n offset len
   pub there : slot m from < capacity m

@@ -4,7 +4,8 @@ use mathlib.Core.Bool.{Bool, true, false}
 use mathlib.Core.List.{List, [], _∷_, map}
 use lib.ListN.{length, getD, set, take}
 use lib.Dec.{ltb}
-use Rattle.memory.specs.Bytes.{part, put, move, tab}
+use Rattle.little_endian.specs.Bytes.{put}
+use Rattle.memory.specs.Bytes.{span, move, tab}
 use Rattle.memory.specs.Layout.{roomSize, roomAt, imageAt, headAt, headSize, orderAt, domainAt, capacity, depth, next, steps, domainLength, fromOf, toOf, offsetOf, lengthOf, headOf, countOf}
 
 -- the head, whose first byte is the number n of devices, and the D rooms in their order: n devices by rank, then the free ones
@@ -42,7 +43,7 @@ inverse c s = record {
   from = c .to;
   to = c .from;
   offset = c .offset;
-  bytes = part (roomOf s (c .from)) (c .offset) (length (c .bytes));
+  bytes = span (roomOf s (c .from)) (c .offset) (length (c .bytes));
   head = s .head;
 }
 
@@ -53,13 +54,13 @@ pasts s (e ∷ es) = change e s ∷ pasts (change e s) es
 
 -- what memory holds: the head and the rooms in their order
 unfoldable pub order : List ℕ → List ℕ
-order m = part m orderAt (capacity m)
+order m = span m orderAt (capacity m)
 
 unfoldable pub room : List ℕ → ℕ → List ℕ
-room m k = part m (roomAt k) roomSize
+room m k = span m (roomAt k) roomSize
 
 unfoldable pub current : List ℕ → Now
-current m = record { head = part m headAt headSize; rooms = map (room m) (order m) }
+current m = record { head = span m headAt headSize; rooms = map (room m) (order m) }
 
 -- the entry at the place p of the ring; its head is the one saved, with the number of devices as read
 unfoldable pub entry : List ℕ → ℕ → Change
@@ -67,8 +68,8 @@ entry m p = record {
   from = fromOf m p;
   to = toOf m p;
   offset = offsetOf m p;
-  bytes = part m (imageAt (capacity m) p) (lengthOf m p);
-  head = set (part m (headOf p) headSize) 0 (countOf m p);
+  bytes = span m (imageAt (capacity m) p) (lengthOf m p);
+  head = set (span m (headOf p) headSize) 0 (countOf m p);
 }
 
 abbrev pub pick : {A : Type 0} → Bool → A → A → A
@@ -93,7 +94,7 @@ pub record State : Type 0 where
 
 unfoldable pub state : List ℕ → State
 state m = record {
-  domain = part m domainAt (domainLength m);
+  domain = span m domainAt (domainLength m);
   capacity = capacity m;
   depth = depth m;
   now = current m;
@@ -115,9 +116,9 @@ abbrev pub offered : List Now → Bool
 offered [] = false
 offered (t ∷ ts) = true
 
-abbrev pub stepped : State → List Now → State
-stepped s [] = s
-stepped s (t ∷ ts) = record { domain = s .domain; capacity = s .capacity; depth = s .depth; now = t; past = ts }
+abbrev pub undoneTo : State → List Now → State
+undoneTo s [] = s
+undoneTo s (t ∷ ts) = record { domain = s .domain; capacity = s .capacity; depth = s .depth; now = t; past = ts }
 
 abbrev pub undone : State → State
-undone s = stepped s (s .past)
+undone s = undoneTo s (s .past)

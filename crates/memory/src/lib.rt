@@ -5,7 +5,7 @@ ghost use mathlib.Core.Bool.{true, false};
 ghost use Prim.Native.Nat.{ℕ, _+_, _≤_, _<_};
 ghost use lib.ListN.{length, getD};
 ghost use Rattle.memory.specs.Layout.{roomSize, most, orderAt, slot, roomAt};
-ghost use Rattle.memory.specs.Sound.{Header, Orderly, Fits, Able, Sound};
+ghost use Rattle.memory.specs.Sound.{Header, Permutation, ChangeFits, Able, Sound};
 ghost use Rattle.memory.specs.Parts.{Counters, Hits, total};
 
 // The layout: see specs/Layout.antt.
@@ -29,7 +29,7 @@ pub const DOMAIN_LENGTH: usize = 5;
 
 pub const DOMAIN: usize = 8;
 
-pub const DOMAIN_MOST: usize = 32;
+pub const DOMAIN_MOST: usize = text::Id::MAX;
 
 pub const HEAD: usize = 40;
 
@@ -54,11 +54,18 @@ pub fn byte(mem: &[u8], at: usize) -> u8
     if at < mem.len() { mem[at] } else { 0 }
 }
 
+// Where the room of a slot starts.
+pub fn room_at(k: u8) -> usize
+    ensures { λ r. ⌜ r ≡ roomAt k ⌝ }
+{
+    ROOM + ROOM * wide(k)
+}
+
 // Where the room at a place of the order starts.
 pub fn room_start(mem: &[u8], i: u8) -> usize
     ensures { λ r. ⌜ r ≡ roomAt (slot (now (mem .entry)) i) ⌝ }
 {
-    ROOM + ROOM * wide(byte(mem, ORDER + wide(i)))
+    room_at(byte(mem, ORDER + wide(i)))
 }
 
 fn counters(mem: &[u8]) -> bool
@@ -143,9 +150,9 @@ fn marked(seen: &[u8; 256], d: usize) -> u8
 }
 
 // Whether the order names each of d slots once: d names mark d slots.
-fn orderly(mem: &[u8], d: usize) -> bool
+fn permuted(mem: &[u8], d: usize) -> bool
     requires { ⌜ (d ≤ most) × (orderAt + most ≤ length (now mem)) ⌝ }
-    ensures { λ r. ⌜ (r ≡ true → Orderly d (slot (now (mem .entry)))) × (r ≡ false → Orderly d (slot (now (mem .entry))) → ⊥) ⌝ }
+    ensures { λ r. ⌜ (r ≡ true → Permutation d (slot (now (mem .entry)))) × (r ≡ false → Permutation d (slot (now (mem .entry))) → ⊥) ⌝ }
 {
     let seen = marks(mem, d);
     wide(marked(&seen, d)) == d
@@ -153,7 +160,7 @@ fn orderly(mem: &[u8], d: usize) -> bool
 
 // Whether d rooms can take a change.
 fn suits(d: u8, from: u8, to: u8, n: u8, offset: usize, len: usize) -> bool
-    ensures { λ r. ⌜ (r ≡ true → Fits d from to n offset len) × (r ≡ false → Fits d from to n offset len → ⊥) ⌝ }
+    ensures { λ r. ⌜ (r ≡ true → ChangeFits d from to n offset len) × (r ≡ false → ChangeFits d from to n offset len → ⊥) ⌝ }
 {
     if d <= from {
         return false;
@@ -190,5 +197,5 @@ pub fn sound(mem: &[u8]) -> bool
     if !header(mem) {
         return false;
     }
-    orderly(mem, wide(mem[CAPACITY]))
+    permuted(mem, wide(mem[CAPACITY]))
 }

@@ -8,13 +8,14 @@ use borrow.Author.Tests.{not-true}
 use Rattle.text.specs.Bytes.{eqBytes}
 use Rattle.text.proofs.Bytes.{eqBytes-false}
 use Rattle.json.specs.Members.{Member}
-use Rattle.fields.specs.Values.{textAt, members, nameOf, all}
+use Rattle.fields.specs.Values.{stringBytes, members, nameOf, all}
 use Rattle.fields.specs.Fields.{holds, field, isTwice, membersIn}
 use Rattle.fields.specs.declared.Field.{Field}
 use Rattle.fields.specs.declared.Field.the-variants.{Absent, One, Twice}
 use Rattle.fields.proofs.Rules.{rule-at, holds-first, holds-second}
-use Rattle.fields.proofs.Names as names
-use Rattle.fields.proofs.Names.{all-both, unnamed, Unlike, unlike}
+use Rattle.fields.specs.Names as names
+use Rattle.fields.specs.Names.{unnamed, Unlike}
+use Rattle.fields.proofs.Names.{all-both, unlike}
 use Rattle.properties.specs.Property.{Property, propertyRules, propertyAt}
 use Rattle.properties.specs.Valid.{In, here, later, Differ, Apart, none, more}
 use Rattle.properties.proofs.Lists.{in-none, in-append}
@@ -24,7 +25,7 @@ use Rattle.nodes.specs.Nodes.{idRules, propertyMember, each, nodeRules, 
 
 module _ (s : List ℕ) where
   -- an ID once in its object
-  once : (at i : ℕ) (rs : List Bool) → holds (idRules s at i ++ rs) ≡ true → not (isTwice (field s at (textAt s i))) ≡ true
+  once : (at i : ℕ) (rs : List Bool) → holds (idRules s at i ++ rs) ≡ true → not (isTwice (field s at (stringBytes s i))) ≡ true
   unfolding idRules
   once at i rs h = rule-at (idRules s at i) 1 (holds-first (idRules s at i) rs h)
 
@@ -35,14 +36,14 @@ module _ (s : List ℕ) where
       let k = all-both (λ m. holds (idRules s at (m .name) ++ rest m)) m ms h in
       rw (once at (m .name) (rest m) (k .0), all) (all-once at rest ms (k .1))
 
-  named-other : {t : List ℕ} (name : List ℕ) (m : Member) → not (eqBytes (nameOf s m) name) ≡ true → t ≡ textAt s (m .name) → t ≡ name → ⊥
+  named-other : {t : List ℕ} (name : List ℕ) (m : Member) → not (eqBytes (nameOf s m) name) ≡ true → t ≡ stringBytes s (m .name) → t ≡ name → ⊥
   unfolding nameOf
-  named-other name m h e k = eqBytes-false (textAt s (m .name)) name (not-true _ h) (sym e ∙ k)
+  named-other name m h e k = eqBytes-false (stringBytes s (m .name)) name (not-true _ h) (sym e ∙ k)
 
   -- ---- one node's properties
 
   module _ (node : ℕ) where
-    among-node : {q : Property} (ms : List Member) → In q (propertiesAmong s node ms) → q .node ≡ textAt s node
+    among-node : {q : Property} (ms : List Member) → In q (propertiesAmong s node ms) → q .node ≡ stringBytes s node
     unfolding propertiesAmong propertyAt
     among-node [] i = in-none i
     among-node (m ∷ ms) (here e) = ap (λ (p : Property). p .node) e

@@ -10,7 +10,7 @@ use Rattle.json.specs.Bytes.{byte, ws}
 use Rattle.json.specs.Members.{Member, memberAt, GotItem}
 use Rattle.json.specs.declared.Item.{Item}
 use Rattle.json.specs.declared.Item.the-variants.{At, Done}
-use Rattle.fields.specs.Values.{textAt, isObject, members, all}
+use Rattle.fields.specs.Values.{stringBytes, isObject, members, all}
 use Rattle.fields.specs.Fields.{holds, pairs, field, optional, isTwice, membersIn, plainIn}
 use Rattle.fields.specs.Members.{pairsOf, fieldOf}
 use Rattle.fields.specs.declared.Members.{Members}
@@ -21,7 +21,7 @@ use Rattle.fields.specs.declared.Field.the-variants.{Absent, One, Twice}
 use Rattle.fields.proofs.Walk.{Walking, walking-as, at-done, at-item, no-members, first-member}
 use Rattle.fields.proofs.Rules.{broken, kept, last}
 use Rattle.properties.specs.Property.{Property, propertyAt}
-use Rattle.properties.specs.Entries.{put, putAll, collected}
+use Rattle.properties.specs.Entries.{addProperty, addProperties, collected}
 use Rattle.properties.proofs.Collection.{put-all-append, collects}
 use Rattle.nodes.specs.Names.{name, type, properties}
 use Rattle.nodes.specs.Nodes.{idRules, each, propertyMember, nodeRules, propertiesAmong, propertiesOf}
@@ -29,13 +29,13 @@ use Rattle.nodes.specs.Parts.{idRulesIn}
 
 -- ---- an ID that no other member has
 
-module _ (s : List ℕ) (m : Members) (i : ℕ) {t : List ℕ} {b : Bool} (p : t ≡ textAt s i) (q : b ≡ isId t) where
+module _ (s : List ℕ) (m : Members) (i : ℕ) {t : List ℕ} {b : Bool} (p : t ≡ stringBytes s i) (q : b ≡ isId t) where
   pub id-no : b ≡ false → false ≡ holds (idRulesIn s m i)
   unfolding idRulesIn
   id-no e = broken _ (q ∙ ap isId p) e
 
-  module _ (e : b ≡ true) {u : List ℕ} {f : Field} (x : u ≡ textAt s i) (y : f ≡ fieldOf s m u) where
-    found : f ≡ fieldOf s m (textAt s i)
+  module _ (e : b ≡ true) {u : List ℕ} {f : Field} (x : u ≡ stringBytes s i) (y : f ≡ fieldOf s m u) where
+    found : f ≡ fieldOf s m (stringBytes s i)
     found = y ∙ ap (fieldOf s m) x
 
     pub id-once : {r : Bool} → r ≡ not (isTwice f) → r ≡ holds (idRulesIn s m i)
@@ -60,7 +60,7 @@ module _ {f : Field} where
 module _ (s : List ℕ) (at : ℕ) (m : Members) (h : pairsOf s m ≡ pairs s (members s at)) where
   pub ids-by-table : (i : ℕ) (rs : List Bool) {r : Bool} → r ≡ holds (idRulesIn s m i ++ rs) → r ≡ holds (idRules s at i ++ rs)
   unfolding idRulesIn idRules
-  ids-by-table i rs x = x ∙ rw (field-of s at m h (textAt s i))
+  ids-by-table i rs x = x ∙ rw (field-of s at m h (stringBytes s i))
 
 unfoldable pub nodeRulesIn : List ℕ → ℕ → Members → List Bool
 nodeRulesIn s k m =
@@ -93,24 +93,24 @@ module _ (rules : ℕ → Member → List Bool) (s : List ℕ) {f : Field} where
 -- ---- lists that grow with each member
 
 module _ (add : List Member → List Property) (s : List ℕ) (at : ℕ) {b : ℕ} (p : b ≡ byte s at) (l : Option (List Property)) where
-  pub adds-none : add [] ≡ [] → (b ≡ 123 → ⊥) → l ≡ putAll (add (members s at)) l
-  unfolding putAll
-  adds-none z n = sym (ap (λ (ps : List Property). putAll ps l) z) ∙ no-members (λ ms. putAll (add ms) l) s at p n
+  pub adds-none : add [] ≡ [] → (b ≡ 123 → ⊥) → l ≡ addProperties (add (members s at)) l
+  unfolding addProperties
+  adds-none z n = sym (ap (λ (ps : List Property). addProperties ps l) z) ∙ no-members (λ ms. addProperties (add ms) l) s at p n
 
-  pub adds-first : {i : ℕ} → b ≡ 123 → i ≡ ws s (at + 1) → i ≤ length s → Walking (memberAt s) (λ ms. putAll (add ms) l) (length s) i (putAll (add (members s at)) l)
-  adds-first e q h = first-member (λ ms. putAll (add ms) l) s at p e q h
+  pub adds-first : {i : ℕ} → b ≡ 123 → i ≡ ws s (at + 1) → i ≤ length s → Walking (memberAt s) (λ ms. addProperties (add ms) l) (length s) i (addProperties (add (members s at)) l)
+  adds-first e q h = first-member (λ ms. addProperties (add ms) l) s at p e q h
 
-module _ (add : List Member → List Property) (s : List ℕ) (i : ℕ) (l : Option (List Property)) {want : Option (List Property)} (g : Walking (memberAt s) (λ ms. putAll (add ms) l) (length s) i want) where
+module _ (add : List Member → List Property) (s : List ℕ) (i : ℕ) (l : Option (List Property)) {want : Option (List Property)} (g : Walking (memberAt s) (λ ms. addProperties (add ms) l) (length s) i want) where
   pub adds-done : add [] ≡ [] → memberAt s i ≡ Done → l ≡ want
-  unfolding putAll
-  adds-done z q = sym (ap (λ (ps : List Property). putAll ps l) z) ∙ at-done (memberAt s) (λ ms. putAll (add ms) l) (length s) i g q
+  unfolding addProperties
+  adds-done z q = sym (ap (λ (ps : List Property). addProperties ps l) z) ∙ at-done (memberAt s) (λ ms. addProperties (add ms) l) (length s) i g q
 
   -- the member adds ps
   pub adds-more : {k e n : ℕ} {l′ : Option (List Property)} (ps : List Property) → GotItem (memberAt s i) i (length s) (At k e n) → ((ms : List Member) → add (record { name = i; value = k; end = e } ∷ ms) ≡ ps ++ add ms)
-      → l′ ≡ putAll ps l → Walking (memberAt s) (λ ms. putAll (add ms) l′) (length s) n want
-  adds-more {k} {e} {n} {l′} ps w z x = walking-as (λ ms. putAll (add ms) l′)
-      (λ ms. ap (putAll (add ms)) x ∙ sym (put-all-append ps (add ms) l) ∙ ap (λ (qs : List Property). putAll qs l) (sym (z ms)))
-      (at-item (memberAt s) (λ ms. putAll (add ms) l) (length s) i g w)
+      → l′ ≡ addProperties ps l → Walking (memberAt s) (λ ms. addProperties (add ms) l′) (length s) n want
+  adds-more {k} {e} {n} {l′} ps w z x = walking-as (λ ms. addProperties (add ms) l′)
+      (λ ms. ap (addProperties (add ms)) x ∙ sym (put-all-append ps (add ms) l) ∙ ap (λ (qs : List Property). addProperties qs l) (sym (z ms)))
+      (at-item (memberAt s) (λ ms. addProperties (add ms) l) (length s) i g w)
 
 -- ---- a node's properties, and the nodes'
 
@@ -131,24 +131,24 @@ unfolding propertiesOf
 of-more s i k e ms = refl
 
 -- one property is put in
-pub put-one : {p q : Property} (l : Option (List Property)) {l′ : Option (List Property)} → p ≡ q → l′ ≡ put p l → l′ ≡ putAll (q ∷ []) l
-unfolding putAll
-put-one l e x = x ∙ ap (λ (r : Property). put r l) e
+pub put-one : {p q : Property} (l : Option (List Property)) {l′ : Option (List Property)} → p ≡ q → l′ ≡ addProperty p l → l′ ≡ addProperties (q ∷ []) l
+unfolding addProperties
+put-one l e x = x ∙ ap (λ (r : Property). addProperty r l) e
 
 -- by the field's case
 module _ (add : List Member → List Property) (z : add [] ≡ []) (s : List ℕ) {f g : Field} (e : f ≡ g) (l : Option (List Property)) where
-  pub in-absent : f ≡ Absent → l ≡ putAll (add (membersIn s g)) l
-  unfolding membersIn putAll
-  in-absent q = sym (ap (λ (h : Field). putAll (add (membersIn s h)) l) (sym e ∙ q) ∙ ap (λ (ps : List Property). putAll ps l) z)
+  pub in-absent : f ≡ Absent → l ≡ addProperties (add (membersIn s g)) l
+  unfolding membersIn addProperties
+  in-absent q = sym (ap (λ (h : Field). addProperties (add (membersIn s h)) l) (sym e ∙ q) ∙ ap (λ (ps : List Property). addProperties ps l) z)
 
-  pub in-twice : f ≡ Twice → l ≡ putAll (add (membersIn s g)) l
-  unfolding membersIn putAll
-  in-twice q = sym (ap (λ (h : Field). putAll (add (membersIn s h)) l) (sym e ∙ q) ∙ ap (λ (ps : List Property). putAll ps l) z)
+  pub in-twice : f ≡ Twice → l ≡ addProperties (add (membersIn s g)) l
+  unfolding membersIn addProperties
+  in-twice q = sym (ap (λ (h : Field). addProperties (add (membersIn s h)) l) (sym e ∙ q) ∙ ap (λ (ps : List Property). addProperties ps l) z)
 
-  pub in-one : {k : ℕ} {r : Option (List Property)} → f ≡ One k → r ≡ putAll (add (members s k)) l → r ≡ putAll (add (membersIn s g)) l
+  pub in-one : {k : ℕ} {r : Option (List Property)} → f ≡ One k → r ≡ addProperties (add (members s k)) l → r ≡ addProperties (add (membersIn s g)) l
   unfolding membersIn
-  in-one q x = x ∙ sym (ap (λ (h : Field). putAll (add (membersIn s h)) l) (sym e ∙ q))
+  in-one q x = x ∙ sym (ap (λ (h : Field). addProperties (add (membersIn s h)) l) (sym e ∙ q))
 
 -- put into no properties
-pub from-empty : (ps : List Property) (l : Option (List Property)) {r : Option (List Property)} → l ≡ some [] → r ≡ putAll ps l → r ≡ collected ps
-from-empty ps l e x = x ∙ ap (putAll ps) e ∙ collects ps
+pub from-empty : (ps : List Property) (l : Option (List Property)) {r : Option (List Property)} → l ≡ some [] → r ≡ addProperties ps l → r ≡ collected ps
+from-empty ps l e x = x ∙ ap (addProperties ps) e ∙ collects ps

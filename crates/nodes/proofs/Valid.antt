@@ -6,7 +6,7 @@ use mathlib.Core.List.{List, [], _∷_, _++_}
 use mathlib.Core.Bool.{Bool, true}
 use Rattle.text.specs.Ids.{isId}
 use Rattle.json.specs.Members.{Member}
-use Rattle.fields.specs.Values.{textAt, members, all}
+use Rattle.fields.specs.Values.{stringBytes, members, all}
 use Rattle.fields.specs.Fields.{holds, field, membersIn}
 use Rattle.fields.specs.declared.Field.{Field}
 use Rattle.fields.specs.declared.Field.the-variants.{Absent, One, Twice}
@@ -20,12 +20,12 @@ use Rattle.nodes.specs.Names.{properties}
 use Rattle.nodes.specs.Nodes.{idRules, propertyMember, each, nodeRules, nodeMember, propertiesAmong, propertiesOf}
 
 module _ (s : List ℕ) (at i : ℕ) (rs : List Bool) where
-  pub named-id : holds (idRules s at i ++ rs) ≡ true → isId (textAt s i) ≡ true
+  pub named-id : holds (idRules s at i ++ rs) ≡ true → isId (stringBytes s i) ≡ true
   unfolding idRules
   named-id h = rule-at (idRules s at i) 0 (holds-first (idRules s at i) rs h)
 
 module _ {p : Property} (s : List ℕ) where
-  among : (node at : ℕ) (ms : List Member) → isId (textAt s node) ≡ true → all (λ m. holds (propertyMember s at m)) ms ≡ true → In p (propertiesAmong s node ms) → Valid p
+  among : (node at : ℕ) (ms : List Member) → isId (stringBytes s node) ≡ true → all (λ m. holds (propertyMember s at m)) ms ≡ true → In p (propertiesAmong s node ms) → Valid p
   unfolding propertiesAmong propertyMember
   among node at [] n h i = in-none i
   among node at (m ∷ ms) n h (here e) =
@@ -33,7 +33,7 @@ module _ {p : Property} (s : List ℕ) where
       rw e (valid s node (m .name) (m .value) n (named-id s at (m .name) (propertyRules s (m .value)) k) (holds-second (idRules s at (m .name)) (propertyRules s (m .value)) k))
   among node at (m ∷ ms) n h (later i) = among node at ms n (all-both (λ m. holds (propertyMember s at m)) m ms h .1) i
 
-  in-node : (node : ℕ) (f : Field) → isId (textAt s node) ≡ true → each (propertyMember s) s f ≡ true → In p (propertiesAmong s node (membersIn s f)) → Valid p
+  in-node : (node : ℕ) (f : Field) → isId (stringBytes s node) ≡ true → each (propertyMember s) s f ≡ true → In p (propertiesAmong s node (membersIn s f)) → Valid p
   unfolding each membersIn propertiesAmong
   in-node node Absent n h i = in-none i
   in-node node (One k) n h i = among node k (members s k) n h i

@@ -4,7 +4,7 @@ use mathlib.Core.List.{List, [], _∷_, _++_}
 use mathlib.Core.Bool.{Bool, true, false, not}
 use Rattle.text.specs.Ids.{isId}
 use Rattle.json.specs.Members.{Member}
-use Rattle.fields.specs.Values.{textAt, isObject, members, all}
+use Rattle.fields.specs.Values.{stringBytes, isObject, members, all}
 use Rattle.fields.specs.Fields.{holds, field, optional, isTwice, membersIn, plainNames}
 use Rattle.fields.specs.declared.Field.{Field}
 use Rattle.fields.specs.declared.Field.the-variants.{Absent, One, Twice}
@@ -15,8 +15,8 @@ use Rattle.nodes.specs.Names.{name, type, properties}
 -- "object by ID": the member's name, the string at i, is an ID. "No .. ID twice in its object."
 unfoldable pub idRules : List ℕ → ℕ → ℕ → List Bool
 idRules s at i =
-    isId (textAt s i) ∷
-    not (isTwice (field s at (textAt s i))) ∷ []
+    isId (stringBytes s i) ∷
+    not (isTwice (field s at (stringBytes s i))) ∷ []
 
 -- a member of `properties`, the object at `at`
 unfoldable pub propertyMember : List ℕ → ℕ → Member → List Bool

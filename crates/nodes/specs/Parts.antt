@@ -3,7 +3,7 @@ use Prim.Native.Nat.{ℕ}
 use mathlib.Core.List.{List, [], _∷_}
 use mathlib.Core.Bool.{Bool, not}
 use Rattle.text.specs.Ids.{isId}
-use Rattle.fields.specs.Values.{textAt}
+use Rattle.fields.specs.Values.{stringBytes}
 use Rattle.fields.specs.Fields.{isTwice}
 use Rattle.fields.specs.Members.{fieldOf}
 use Rattle.fields.specs.declared.Members.{Members}
@@ -11,5 +11,5 @@ use Rattle.fields.specs.declared.Members.{Members}
 -- the rules of an ID, read in the table of the object's members
 unfoldable pub idRulesIn : List ℕ → Members → ℕ → List Bool
 idRulesIn s m i =
-    isId (textAt s i) ∷
-    not (isTwice (fieldOf s m (textAt s i))) ∷ []
+    isId (stringBytes s i) ∷
+    not (isTwice (fieldOf s m (stringBytes s i))) ∷ []

@@ -9,7 +9,7 @@ ghost use mathlib.Core.List.{_++_};
 ghost use Rattle.fields.specs.Values.{members, all};
 ghost use Rattle.fields.specs.Fields.{holds, field, membersIn};
 ghost use Rattle.properties.specs.Property.{propertyRules};
-ghost use Rattle.properties.specs.Entries.{view, putAll, collected};
+ghost use Rattle.properties.specs.Entries.{view, addProperties, collected};
 ghost use Rattle.nodes.specs.Names.{properties};
 ghost use Rattle.nodes.specs.Parts.{idRulesIn};
 ghost use Rattle.nodes.specs.Nodes.{propertyMember, each, nodeRules, nodeMember, propertiesAmong, propertiesOf};
@@ -138,7 +138,7 @@ pub fn has_nodes(s: &[u8], f: Field) -> bool
 
 // The list with the properties in the object at `at`, of the node whose ID is at `node`.
 fn add_properties(s: &[u8], node: usize, at: usize, before: Entries) -> Entries
-    ensures { λ r. ⌜ view (now (s .entry)) r ≡ putAll (propertiesAmong (now (s .entry)) node (members (now (s .entry)) at)) (view (now (s .entry)) before) ⌝ }
+    ensures { λ r. ⌜ view (now (s .entry)) r ≡ addProperties (propertiesAmong (now (s .entry)) node (members (now (s .entry)) at)) (view (now (s .entry)) before) ⌝ }
 {
     let mut l = before;
     if json::peek(s, at) != 123 {
@@ -158,7 +158,7 @@ fn add_properties(s: &[u8], node: usize, at: usize, before: Entries) -> Entries
 
 // The list with the properties of the node whose ID is at `i` and whose object is at `k`.
 fn add_node(s: &[u8], i: usize, k: usize, l: Entries) -> Entries
-    ensures { λ r. ⌜ view (now (s .entry)) r ≡ putAll (propertiesAmong (now (s .entry)) i (membersIn (now (s .entry)) (field (now (s .entry)) k properties))) (view (now (s .entry)) l) ⌝ }
+    ensures { λ r. ⌜ view (now (s .entry)) r ≡ addProperties (propertiesAmong (now (s .entry)) i (membersIn (now (s .entry)) (field (now (s .entry)) k properties))) (view (now (s .entry)) l) ⌝ }
 {
     let m = fields::members_of(s, k);
     match fields::lookup_in(s, m, b"properties") {
@@ -170,7 +170,7 @@ fn add_node(s: &[u8], i: usize, k: usize, l: Entries) -> Entries
 
 // The list with the properties of the nodes in the object at `at`.
 fn add_nodes(s: &[u8], at: usize, before: Entries) -> Entries
-    ensures { λ r. ⌜ view (now (s .entry)) r ≡ putAll (propertiesOf (now (s .entry)) (members (now (s .entry)) at)) (view (now (s .entry)) before) ⌝ }
+    ensures { λ r. ⌜ view (now (s .entry)) r ≡ addProperties (propertiesOf (now (s .entry)) (members (now (s .entry)) at)) (view (now (s .entry)) before) ⌝ }
 {
     let mut l = before;
     if json::peek(s, at) != 123 {

@@ -9,7 +9,7 @@ use Rattle.numbers.specs.declared.steps.Bound.{Bound}
 use Rattle.numbers.specs.declared.steps.Bound.the-variants.{At, Open}
 use Rattle.numbers.specs.declared.steps.Move.{Move}
 use Rattle.numbers.specs.Whole.{stands}
-use Rattle.numbers.specs.Step.{rounded, notBelow, notAbove, held, base, steps, inRange, limit}
+use Rattle.numbers.specs.Step.{rounded, notBelow, notAbove, inBounds, base, steps, inRange, limit}
 use Rattle.numbers.proofs.Difference.{above-sub, below-sub, sub-eq}
 
 pub open-above : (min : Bound) → min ≡ Open → (k : ℕ) (z : ℤ) → true ≡ notBelow (limit k min) z
@@ -27,10 +27,10 @@ module _ (n v add sub : ℕ) (bound : Bound) (r : Bool) (e : bound ≡ At n) whe
 
 -- what the code knows of a value and a move: it stands for one whole number with each bias
 module _ (min max : Bound) (x y : Bool) (z : ℕ → ℤ) (low : (k : ℕ) → x ≡ notBelow (limit k min) (z k)) where
-  pub both : x ≡ true → ((k : ℕ) → y ≡ notAbove (limit k max) (z k)) → (k : ℕ) → y ≡ held (limit k min) (limit k max) (z k)
+  pub both : x ≡ true → ((k : ℕ) → y ≡ notAbove (limit k max) (z k)) → (k : ℕ) → y ≡ inBounds (limit k min) (limit k max) (z k)
   both t high k = rw (← low k, t) (high k)
 
-  pub not-above : x ≡ false → (k : ℕ) → false ≡ held (limit k min) (limit k max) (z k)
+  pub not-above : x ≡ false → (k : ℕ) → false ≡ inBounds (limit k min) (limit k max) (z k)
   not-above t k = rw (← low k, t)
 
 pub base-min : (min max : Bound) (m : ℕ) → min ≡ At m → (k : ℕ) → limit k (At m) ≡ base (limit k min) (limit k max)
@@ -43,9 +43,9 @@ module _ (v s : ℕ) (min max : Bound) (r : Bool) where
   unmoved : (k : ℕ) → subℕ (v + 0) (k + 0) ≡ stands k v
   unmoved k = sub-eq (v + 0) (k + 0) v k (omega arith)
 
-  pub no-step : s ≡ 0 → ((k : ℕ) → r ≡ held (limit k min) (limit k max) (subℕ (v + 0) (k + 0))) → (k : ℕ) → r ≡ inRange (limit k min) (limit k max) s (stands k v)
+  pub no-step : s ≡ 0 → ((k : ℕ) → r ≡ inBounds (limit k min) (limit k max) (subℕ (v + 0) (k + 0))) → (k : ℕ) → r ≡ inRange (limit k min) (limit k max) s (stands k v)
   unfolding inRange
-  no-step e h k = rw e (h k ∙ ap (λ (z : ℤ). held (limit k min) (limit k max) z) (unmoved k))
+  no-step e h k = rw e (h k ∙ ap (λ (z : ℤ). inBounds (limit k min) (limit k max) z) (unmoved k))
 
   stepping : (s ≡ 0 → ⊥) → (k : ℕ) → inRange (limit k min) (limit k max) s (stands k v) ≡ steps (base (limit k min) (limit k max)) (limit k min) (limit k max) s (stands k v)
   unfolding inRange
@@ -60,6 +60,6 @@ module _ (v s : ℕ) (min max : Bound) (r : Bool) where
     unfolding steps
     no-base o k = sym (stepping e k ∙ rw (← is-base k, o))
 
-    pub stepped : (n : ℕ) (m : Move) → b ≡ At n → ((k : ℕ) → rounded (subℕ n k) (subℕ v k) s ≡ subℕ (v + m .add) (k + m .sub)) → ((k : ℕ) → r ≡ held (limit k min) (limit k max) (subℕ (v + m .add) (k + m .sub))) → (k : ℕ) → r ≡ inRange (limit k min) (limit k max) s (stands k v)
+    pub stepped : (n : ℕ) (m : Move) → b ≡ At n → ((k : ℕ) → rounded (subℕ n k) (subℕ v k) s ≡ subℕ (v + m .add) (k + m .sub)) → ((k : ℕ) → r ≡ inBounds (limit k min) (limit k max) (subℕ (v + m .add) (k + m .sub))) → (k : ℕ) → r ≡ inRange (limit k min) (limit k max) s (stands k v)
     unfolding steps
     stepped n m o to h k = sym (stepping e k ∙ rw (← is-base k, o, to k) (sym (h k)))

@@ -6,7 +6,7 @@ use Rattle.numbers.specs.declared.decimals.Decimal.{Decimal}
 use Rattle.numbers.specs.declared.compare.DecimalBound.{DecimalBound}
 use Rattle.numbers.specs.declared.compare.DecimalBound.the-variants.{At, Open}
 use Rattle.numbers.specs.Decimal.{Scientific, exact}
-use Rattle.numbers.specs.Ratio.{ratio, leQ, notLess, notMore, decimalHeld, decimalLimit}
+use Rattle.numbers.specs.Ratio.{ratio, leQ, notLess, notMore, decimalInBounds, decimalLimit}
 
 module _ (b : DecimalBound) (d : Decimal) where
   pub open-above : b ≡ Open → true ≡ notLess (decimalLimit b) (exact d)
@@ -23,10 +23,10 @@ module _ (b : DecimalBound) (d : Decimal) where
     is-below t = rw e t
 
 module _ (min max : Option Scientific) (d : Scientific) (x : Bool) (low : x ≡ notLess min d) where
-  pub both : (y : Bool) → x ≡ true → y ≡ notMore max d → y ≡ decimalHeld min max d
-  unfolding decimalHeld
+  pub both : (y : Bool) → x ≡ true → y ≡ notMore max d → y ≡ decimalInBounds min max d
+  unfolding decimalInBounds
   both y t high = rw (← low, t) high
 
-  pub too-low : x ≡ false → false ≡ decimalHeld min max d
-  unfolding decimalHeld
+  pub too-low : x ≡ false → false ≡ decimalInBounds min max d
+  unfolding decimalInBounds
   too-low t = rw (← low, t)

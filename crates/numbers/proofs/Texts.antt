@@ -95,13 +95,13 @@ pub record OneToThree (s r : List ℕ) : Type 0 where
   pub some : 0 < length (front .ds)
   pub few : length (front .ds) ≤ 3
 
-one-to-three : {s r : List ℕ} → Lead (repeat 1 2 DIGIT) s r → OneToThree s r
+one-to-three : {s r : List ℕ} → Lead (repeat 1 3 DIGIT) s r → OneToThree s r
 one-to-three {s} {r} h =
     let f = few-front 2 (h .2) in
     let l = f .few in
     record { front = then-front (subst (λ (l : List ℕ). Lead DIGIT s l) (h .1 .2) (h .1 .1)) (f .front); some = omega arith; few = omega arith }
 
-three-lead : (ds r : List ℕ) → allDigits ds ≡ true → 0 < length ds → length ds ≤ 3 → Lead (repeat 1 2 DIGIT) (ds ++ r) r
+three-lead : (ds r : List ℕ) → allDigits ds ≡ true → 0 < length ds → length ds ≤ 3 → Lead (repeat 1 3 DIGIT) (ds ++ r) r
 three-lead [] r e l k = absurd (omega arith)
 three-lead (b ∷ ds) r e l k =
     let p = uncons-digits b ds e in
@@ -191,7 +191,7 @@ front-letter c r e = both (eqb c 101) (λ t. inl (at c 101 r (eqb-true c 101 t))
     at : (c k : ℕ) (r : List ℕ) → c ≡ k → Lead {N = ⊥} (x k) (c ∷ r) r
     at c k r i = (c, omega arith, omega arith, refl)
 
-pub power-front : {s : List ℕ} → Lead (opt ((x 0x65 / x 0x45) · opt (x 0x2D) · repeat 1 2 DIGIT)) s [] → Powered s
+pub power-front : {s : List ℕ} → Lead (opt ((x 0x65 / x 0x45) · opt (x 0x2D) · repeat 1 3 DIGIT)) s [] → Powered s
 power-front (inl h) =
     let c = letter-front (h .1) in
     let n = sign-front (h .2 .1) in
@@ -207,8 +207,8 @@ power-front (inl h) =
     }
 power-front (inr h) = record { c = 101; neg = false; es = []; letter = refl; all = no-digits; few = omega arith; cut = h }
 
-pub front-power : (c : ℕ) (neg : Bool) (es : List ℕ) → isE c ≡ true → allDigits es ≡ true → length es ≤ 3 → Lead (opt ((x 0x65 / x 0x45) · opt (x 0x2D) · repeat 1 2 DIGIT)) (powered c neg es) []
+pub front-power : (c : ℕ) (neg : Bool) (es : List ℕ) → isE c ≡ true → allDigits es ≡ true → length es ≤ 3 → Lead (opt ((x 0x65 / x 0x45) · opt (x 0x2D) · repeat 1 3 DIGIT)) (powered c neg es) []
 front-power c neg [] i e l = inr refl
 front-power c neg (d ∷ es) i e l =
     inl
-    (sign neg ++ (d ∷ es), front-letter c (sign neg ++ (d ∷ es)) i, (d ∷ es, front-sign neg (d ∷ es), subst (λ (t : List ℕ). Lead (repeat 1 2 DIGIT) t []) (append-nil (d ∷ es)) (three-lead (d ∷ es) [] e (omega arith) l)))
+    (sign neg ++ (d ∷ es), front-letter c (sign neg ++ (d ∷ es)) i, (d ∷ es, front-sign neg (d ∷ es), subst (λ (t : List ℕ). Lead (repeat 1 3 DIGIT) t []) (append-nil (d ∷ es)) (three-lead (d ∷ es) [] e (omega arith) l)))

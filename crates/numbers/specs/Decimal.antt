@@ -48,10 +48,13 @@ power s = signed (minus (after isE s)) (number (digits (after isE s)))
 abbrev pub scientific : List ℕ → Scientific
 scientific s = record { negative = minus s; mantissa = number (significant s); exponent = power s -ℤ pos (length (fraction s)) }
 
--- Paper 01, "Payloads of properties": "float: .. Ours: .., at most 18 digits before the exponent, exponent from -280 to 280."
+-- Paper 01, "Payloads of properties": "at most 18 digits before the exponent, exponent from -280 to 280"
+abbrev pub isSmall : List ℕ → Bool
+isSmall s = leb (length (significant s)) 18 && between (negℤ (pos 280)) (pos 280) (power s)
+
+-- "float: optional `-`, digits, optionally `.` and digits, .."
 unfoldable pub decimal : List ℕ → Option Scientific
-decimal s =
-    cond (accepts float-text s && (leb (length (significant s)) 18 && between (negℤ (pos 280)) (pos 280) (power s))) (some (scientific s)) none
+decimal s = cond (accepts float-text s && isSmall s) (some (scientific s)) none
 
 -- what a `Decimal` of the code stands for: its exponent n is n - 300
 abbrev pub exact : Decimal → Scientific

@@ -11,4 +11,4 @@ integer-text = opt (x 0x2D) · some DIGIT
 -- "float: optional `-`, digits, optionally `.` and digits, optionally `e` or `E`, optional `-` and 1 to 3 digits",
 -- "at least one digit on each side of a dot"
 abbrev pub float-text : Abnf ⊥
-float-text = opt (x 0x2D) · some DIGIT · opt (x 0x2E · some DIGIT) · opt ((x 0x65 / x 0x45) · opt (x 0x2D) · repeat 1 2 DIGIT)
+float-text = opt (x 0x2D) · some DIGIT · opt (x 0x2E · some DIGIT) · opt ((x 0x65 / x 0x45) · opt (x 0x2D) · repeat 1 3 DIGIT)

@@ -35,8 +35,8 @@ abbrev pub notMore : Option Scientific → Scientific → Bool
 notMore none d = true
 notMore (some max) d = leQ (ratio d) (ratio max)
 
-unfoldable pub decimalHeld : Option Scientific → Option Scientific → Scientific → Bool
-decimalHeld min max d = notLess min d && notMore max d
+unfoldable pub decimalInBounds : Option Scientific → Option Scientific → Scientific → Bool
+decimalInBounds min max d = notLess min d && notMore max d
 
 -- a bound of the code
 abbrev pub decimalLimit : DecimalBound → Option Scientific

@@ -26,8 +26,8 @@ abbrev pub notAbove : Option ℤ → ℤ → Bool
 notAbove none z = true
 notAbove (some max) z = leZ z max
 
-abbrev pub held : Option ℤ → Option ℤ → ℤ → Bool
-held min max z = notBelow min z && notAbove max z
+abbrev pub inBounds : Option ℤ → Option ℤ → ℤ → Bool
+inBounds min max z = notBelow min z && notAbove max z
 
 -- "base b is min, else max"
 abbrev pub base : Option ℤ → Option ℤ → Option ℤ
@@ -36,12 +36,12 @@ base none max = max
 
 -- "the rounded value is held against min and max, .. With neither min nor max every integer passes."
 unfoldable pub steps : Option ℤ → Option ℤ → Option ℤ → ℕ → ℤ → Bool
-steps (some b) min max s v = held min max (rounded b v s)
+steps (some b) min max s v = inBounds min max (rounded b v s)
 steps none min max s v = true
 
 -- a number in a range: step 0 is no step
 unfoldable pub inRange : Option ℤ → Option ℤ → ℕ → ℤ → Bool
-inRange min max zero v = held min max v
+inRange min max zero v = inBounds min max v
 inRange min max (suc s) v = steps (base min max) min max (suc s) v
 
 -- a bound of the code, whose numbers n stand for n - bias

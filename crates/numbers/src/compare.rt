@@ -3,7 +3,7 @@ ghost use mathlib.Core.Path.{_≡_};
 ghost use Prim.Native.Nat.{_*_, _/_, _^_};
 ghost use lib.Dec.{leb};
 ghost use Rattle.numbers.specs.Decimal.{exact};
-ghost use Rattle.numbers.specs.Ratio.{ratio, leQ, notLess, notMore, decimalHeld, decimalLimit};
+ghost use Rattle.numbers.specs.Ratio.{ratio, leQ, notLess, notMore, decimalInBounds, decimalLimit};
 use crate::decimals::Decimal;
 
 // A bound of a range, or none.
@@ -84,7 +84,7 @@ fn is_below(max: DecimalBound, d: Decimal) -> bool
 
 // d is within the bounds.
 pub fn decimal_in_range(d: Decimal, min: DecimalBound, max: DecimalBound) -> bool
-    ensures { λ r. ⌜ r ≡ decimalHeld (decimalLimit min) (decimalLimit max) (exact d) ⌝ }
+    ensures { λ r. ⌜ r ≡ decimalInBounds (decimalLimit min) (decimalLimit max) (exact d) ⌝ }
 {
     if is_above(min, d) {
         is_below(max, d)

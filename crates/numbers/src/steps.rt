@@ -4,7 +4,7 @@ ghost use Prim.Native.Nat.{ℕ, _+_, _<_};
 ghost use lib.Dec.{leb};
 ghost use lib.IntN.{subℕ};
 ghost use Rattle.numbers.specs.Whole.{stands};
-ghost use Rattle.numbers.specs.Step.{rounded, notBelow, notAbove, held, base, limit, inRange};
+ghost use Rattle.numbers.specs.Step.{rounded, notBelow, notAbove, inBounds, base, limit, inRange};
 ghost use Rattle.numbers.specs.Parts.{Past};
 
 // A bound of a range, or none.
@@ -78,7 +78,7 @@ fn is_below(max: Bound, v: u64, m: Move) -> bool
 }
 
 fn hold(min: Bound, max: Bound, v: u64, m: Move) -> bool
-    ensures { λ r. ⌜ ((k : ℕ) → r ≡ held (limit k min) (limit k max) (subℕ (v + m .add) (k + m .sub))) ⌝ }
+    ensures { λ r. ⌜ ((k : ℕ) → r ≡ inBounds (limit k min) (limit k max) (subℕ (v + m .add) (k + m .sub))) ⌝ }
 {
     if is_above(min, v, m) {
         is_below(max, v, m)

@@ -7,8 +7,8 @@ use mathlib.Core.List.{List, _∷_}
 use mathlib.Core.Bool.{false}
 use mathlib.Core.Option.{Option, none}
 use lib.ListN.{length, getD}
-use Rattle.trace.specs.Bytes.{u64}
-use Rattle.memory.specs.Bytes.{put, tab}
+use Rattle.little_endian.specs.Bytes.{u64, put}
+use Rattle.memory.specs.Bytes.{tab}
 use Rattle.memory.specs.Layout.{roomSize}
 use Rattle.memory.proofs.Lists.{tab-ext}
 use Rattle.rules.specs.declared.DeviceState.{DeviceState}
@@ -18,7 +18,8 @@ use Rattle.rules.specs.States.{stateAt}
 use Rattle.rules.specs.Table.{Held, Property, withLane}
 use Rattle.rules.specs.Find.{changeAt, inDescription, inDevice}
 use Rattle.rules.specs.Messages.{withState, withDescription, newDevice}
-use Rattle.device.specs.Layout.{idAt, idMost, stateCodeAt, timeAt, describedAt, countAt, propertiesMost, recordAt, recordSize, lanesAt, laneSize, laneAt}
+use Rattle.text.specs.Ids.{idMost}
+use Rattle.device.specs.Layout.{idAt, stateCodeAt, timeAt, describedAt, rootAt, countAt, propertiesMost, recordAt, recordSize, lanesAt, laneSize, laneAt}
 use Rattle.device.specs.Decode.{isSet, textAt, heldAt, declaredAt, recordOf, countIn, propertiesIn, descriptionIn, deviceOf}
 use Rattle.device.specs.Meaning.{laneNumber}
 use Rattle.patch.specs.Makes.{Makes, LaneMakes}
@@ -53,7 +54,7 @@ none-makes bs l h = record {
       device-is (put-before r bs describedAt fits idAt describedAt (omega arith)) none (no-description (put r describedAt bs) flag);
 }
 
-pub new-makes : (bs id : List ℕ) (s : DeviceState) (time : ℕ) → length bs ≡ 43 → textAt bs idAt idMost ≡ id → stateAt (getD bs stateCodeAt 0) ≡ s → u64 bs timeAt ≡ time
+pub new-makes : (bs id : List ℕ) (s : DeviceState) (time : ℕ) → length bs ≡ rootAt → textAt bs idAt idMost ≡ id → stateAt (getD bs stateCodeAt 0) ≡ s → u64 bs timeAt ≡ time
     → isSet bs describedAt ≡ false → Makes idAt bs (λ _. newDevice id s time)
 unfolding deviceOf
 new-makes bs name s t l ei es et h = record {

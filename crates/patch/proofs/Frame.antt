@@ -7,11 +7,12 @@ use mathlib.Core.Bool.{Bool, true, false, not}
 use mathlib.Core.Option.{Option, none, some}
 use lib.ListN.{length, getD}
 use lib.Dec.{eqb}
-use Rattle.trace.specs.Bytes.{le, num, u64}
+use Rattle.little_endian.specs.Bytes.{num, u64, put}
+use Rattle.little_endian.proofs.Put.{length-put}
 use Rattle.numbers.specs.Whole.{stands}
-use Rattle.memory.specs.Bytes.{part, put, tab}
+use Rattle.memory.specs.Bytes.{span, tab}
 use Rattle.memory.specs.Layout.{roomSize}
-use Rattle.memory.proofs.Flat.{part-same, length-put, put-below, put-in, put-above}
+use Rattle.memory.proofs.Flat.{span-same, num-same, put-below, put-in, put-above}
 use Rattle.memory.proofs.Lists.{tab-ext}
 use Rattle.payload.specs.Datatypes.{datatypeAt}
 use Rattle.properties.specs.Property as declaration
@@ -19,7 +20,8 @@ use Rattle.rules.specs.States.{stateAt}
 use Rattle.rules.specs.Table.{Held, Property, Description}
 use Rattle.rules.specs.Find.{inDescription}
 use Rattle.rules.specs.Messages.{withDescription}
-use Rattle.device.specs.Layout.{idAt, idMost, stateCodeAt, timeAt, describedAt, rootAt, parentAt, versionAt, countAt, propertiesMost, recordAt, recordSize, nodeAt, propertyAt, datatypeCodeAt, settableAt, retainedAt, formatAt, formatMost, lanesAt, laneSize, payloadAt, payloadMost}
+use Rattle.text.specs.Ids.{idMost}
+use Rattle.device.specs.Layout.{idAt, stateCodeAt, timeAt, describedAt, rootAt, parentAt, versionAt, countAt, propertiesMost, recordAt, recordSize, nodeAt, propertyAt, datatypeCodeAt, settableAt, retainedAt, formatAt, formatMost, lanesAt, laneSize, payloadAt, payloadMost}
 use Rattle.device.specs.Decode.{isSet, textAt, optionalAt, heldAt, declaredAt, recordOf, countIn, propertiesIn, descriptionIn, deviceOf}
 
 -- the n bytes of r from a on are the bytes of s from b on
@@ -33,21 +35,21 @@ pub record Alike (r : List ℕ) (a : ℕ) (s : List ℕ) (b n : ℕ) : Type 0 wh
 module _ (r bs : List ℕ) (a : ℕ) (fits : a + length bs ≤ length r) where
   pub put-new : Alike (put r a bs) a bs 0 (length bs)
   put-new = record {
-    inside = omega (arith, length-put r bs a fits);
+    inside = omega (arith, length-put r a bs fits);
     inside′ = omega arith;
     bytes = λ i h. put-in r bs a fits i h ∙ ap (λ (k : ℕ). getD bs k 0) (omega arith);
   }
 
   pub put-before : (k n : ℕ) → k + n ≤ a → Alike (put r a bs) k r k n
   put-before k n h = record {
-    inside = omega (arith, length-put r bs a fits);
+    inside = omega (arith, length-put r a bs fits);
     inside′ = omega arith;
     bytes = λ i q. put-below r bs a fits (k + i) (omega arith);
   }
 
   pub put-after : (k n : ℕ) → a + length bs ≤ k → k + n ≤ length r → Alike (put r a bs) k r k n
   put-after k n h l = record {
-    inside = omega (arith, length-put r bs a fits);
+    inside = omega (arith, length-put r a bs fits);
     inside′ = omega arith;
     bytes = λ i q. put-above r bs a fits (k + i) (omega arith);
   }
@@ -73,18 +75,17 @@ module _ {r : List ℕ} {a : ℕ} {s : List ℕ} {b n : ℕ} (e : Alike r a s b 
   unfolding isSet
   set-alike k p q h = ap (λ (x : ℕ). not (eqb x 0)) (byte-alike k p q h)
 
-  pub part-alike : part r a n ≡ part s b n
-  part-alike = part-same s r b a n (e .inside′) (e .inside) (e .bytes)
+  pub span-alike : span r a n ≡ span s b n
+  span-alike = span-same s r b a n (e .inside′) (e .inside) (e .bytes)
 
   pub num-alike : num n a r ≡ num n b s
-  unfolding num part
-  num-alike = ap le part-alike
+  num-alike = num-same s r b a n (e .inside′) (e .inside) (e .bytes)
 
 pub text-alike : {r : List ℕ} {a : ℕ} {s : List ℕ} {b : ℕ} (most : ℕ) → Alike r a s b (1 + most) → textAt r a most ≡ textAt s b most
 unfolding textAt
 text-alike {r} {a} {s} {b} most e =
-    ap (λ (x : ℕ). part r (a + 1) (min x most)) (byte-alike e 0 (omega arith) (omega arith) (omega arith))
-    ∙ part-alike (within e 1 refl refl (omega arith))
+    ap (λ (x : ℕ). span r (a + 1) (min x most)) (byte-alike e 0 (omega arith) (omega arith) (omega arith))
+    ∙ span-alike (within e 1 refl refl (omega arith))
 
 optional : Bool → List ℕ → Option (List ℕ)
 optional b t = elim b [ true ↦ some t | false ↦ none ]

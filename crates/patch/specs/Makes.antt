@@ -5,7 +5,7 @@ use mathlib.Core.List.{List}
 use mathlib.Core.Bool.{true, false}
 use mathlib.Core.Option.{Option, none, some}
 use lib.ListN.{length}
-use Rattle.memory.specs.Bytes.{put}
+use Rattle.little_endian.specs.Bytes.{put}
 use Rattle.memory.specs.Layout.{roomSize}
 use Rattle.rules.specs.declared.LaneKind.{LaneKind}
 use Rattle.rules.specs.Table.{Held, Device, withLane}
@@ -20,8 +20,8 @@ pub record Makes (offset : ℕ) (bytes : List ℕ) (f : Device → Device) : Typ
   pub makes : (room : List ℕ) → length room ≡ roomSize → deviceOf (put room offset bytes) ≡ f (deviceOf room)
 
 -- paper 01, "The table": "each is empty or holds a payload with its time"
-unfoldable pub held : (time : ℕ) → (payload : List ℕ) → Option Held
-held time payload = elim (isEmpty payload) [ true ↦ none | false ↦ some (record { time = time; payload = payload }) ]
+unfoldable pub heldSince : (time : ℕ) → (payload : List ℕ) → Option Held
+heldSince time payload = elim (isEmpty payload) [ true ↦ none | false ↦ some (record { time = time; payload = payload }) ]
 
 -- these bytes, put over a lane of any kind of any property, make it hold this
 pub record LaneMakes (bytes : List ℕ) (h : Option Held) : Type 0 where

@@ -4,57 +4,37 @@ ghost use Prim.Native.Nat.{_+_, _<_, _≤_, min};
 ghost use mathlib.Core.Path.{_≡_};
 ghost use mathlib.Core.Option.{none};
 ghost use lib.ListN.{length, take};
-ghost use Rattle.trace.specs.Bytes.{leBytes};
-ghost use Rattle.memory.specs.Bytes.{put};
+ghost use Rattle.little_endian.specs.Bytes.{put};
 ghost use Rattle.rules.specs.Messages.{withState, newDevice, withDescription};
-ghost use Rattle.device.specs.Layout.{stateCodeAt, describedAt, idAt, idMost, laneAt, payloadMost};
+ghost use Rattle.text.specs.Ids.{idMost};
+ghost use Rattle.device.specs.Layout.{stateCodeAt, describedAt, idAt, laneAt, payloadMost};
 ghost use Rattle.device.specs.Meaning.{laneNumber};
-ghost use Rattle.patch.specs.Makes.{Makes, LaneMakes, held};
+ghost use Rattle.patch.specs.Makes.{Makes, LaneMakes, heldSince};
 ghost use Rattle.patch.specs.Parts.{textBytes};
+use device::ID;
+use device::LANE;
+use device::LANES;
+use device::PAYLOAD;
+use device::PAYLOAD_MOST;
+use device::RECORD;
+use device::RECORDS;
+use device::ROOT;
+use device::STATE;
+use device::TIME;
 use device::lane_number;
 use rules::DeviceState;
 use rules::LaneKind;
 use rules::state_code;
 
-// The layout of a room: see crates/device/specs/Layout.antt.
-const ID: usize = 0;
+// In the bytes of a state, its number first: where its time stands, and their number.
+const STATE_TIME: usize = TIME - STATE;
 
-const ID_MOST: usize = 32;
-
-const STATE: usize = 33;
-
-const TIME: usize = 34;
-
-const RECORDS: usize = 512;
-
-const RECORD: usize = 320;
-
-const LANES: usize = 134;
-
-const LANE: usize = 57;
-
-const PAYLOAD: usize = 8;
-
-const PAYLOAD_MOST: usize = 48;
+pub const STATE_SIZE: usize = STATE_TIME + 8;
 
 fn least(a: usize, b: usize) -> usize
     ensures { λ r. ⌜ r ≡ min a b ⌝ }
 {
     if a < b { a } else { b }
-}
-
-// Writes a number to the 8 bytes from `at` on, the lowest first.
-fn write_number(d: &mut [u8], at: usize, x: u64)
-    requires { ⌜ at + 8 ≤ length (now d) ⌝ }
-    ensures { λ _. ⌜ now (d .exit) ≡ put (now (d .entry)) at (leBytes 8 x) ⌝ }
-{
-    let mut v = x;
-    let mut j: usize = 0;
-    while j < 8 {
-        d[at + j] = (v % 256) as u8;
-        v = v / 256;
-        j += 1;
-    }
 }
 
 // Writes the first n bytes of s from `at` on.
@@ -80,23 +60,24 @@ fn write_text(d: &mut [u8], at: usize, s: &[u8], most: usize)
 }
 
 // The device has this state since this time.
-pub fn state(s: DeviceState, time: u64) -> [u8; 9]
+pub fn state(s: DeviceState, time: u64) -> [u8; STATE_SIZE]
     ensures { λ r. ⌜ Makes stateCodeAt r (withState s time) ⌝ }
 {
-    let mut bytes = [0u8; 9];
+    let mut bytes = [0u8; STATE_SIZE];
     bytes[0] = state_code(s);
-    write_number(&mut bytes, 1, time);
+    little_endian::set(&mut bytes, STATE_TIME, 8, time);
     bytes
 }
 
 // A device with this ID, cut to 32 bytes, in this state since this time, without a description: whatever the room held.
-pub fn new_device(id: &[u8], s: DeviceState, time: u64) -> [u8; 43]
+// The bytes before the description are all written, those that are spare too.
+pub fn new_device(id: &[u8], s: DeviceState, time: u64) -> [u8; ROOT]
     ensures { λ r. ⌜ Makes idAt r (λ _. newDevice (take idMost (now (id .entry))) s time) ⌝ }
 {
-    let mut bytes = [0u8; 43];
-    write_text(&mut bytes, ID, id, ID_MOST);
+    let mut bytes = [0u8; ROOT];
+    write_text(&mut bytes, ID, id, text::Id::MAX);
     bytes[STATE] = state_code(s);
-    write_number(&mut bytes, TIME, time);
+    little_endian::set(&mut bytes, TIME, 8, time);
     bytes
 }
 
@@ -108,11 +89,11 @@ pub fn no_description() -> [u8; 1]
 }
 
 // A lane holds this payload, cut to 48 bytes, with this time; it is empty if the payload is.
-pub fn lane(time: u64, payload: &[u8]) -> [u8; 57]
-    ensures { λ r. ⌜ LaneMakes r (held time (take payloadMost (now (payload .entry)))) ⌝ }
+pub fn lane(time: u64, payload: &[u8]) -> [u8; LANE]
+    ensures { λ r. ⌜ LaneMakes r (heldSince time (take payloadMost (now (payload .entry)))) ⌝ }
 {
-    let mut bytes = [0u8; 57];
-    write_number(&mut bytes, 0, time);
+    let mut bytes = [0u8; LANE];
+    little_endian::set(&mut bytes, 0, 8, time);
     write_text(&mut bytes, PAYLOAD, payload, PAYLOAD_MOST);
     bytes
 }

@@ -1,9 +1,6 @@
--- Paper 01, "Known examples": those with a star, over the definitions.
-use Prim.Native.Nat.{ℕ}
-use Prim.Native.String.{String}
+-- The paper's examples with a star, by computation.
 use mathlib.Core.Path.{_≡_, refl}
-use mathlib.Core.List.{List, [], _∷_}
-use mathlib.Core.Bool.{Bool, true, false, _&&_, Bool·beq}
+use mathlib.Core.Bool.{true}
 use Rattle.abnf.specs.Accepts.{accepts, starts, again, isEmpty}
 use Rattle.text.specs.Bytes.{eqBytes, every}
 use Rattle.text.specs.Split.{split, onto}
@@ -12,50 +9,16 @@ use Rattle.numbers.specs.Digits.{digits, numeral}
 use Rattle.numbers.specs.Integer.{value, integer}
 use Rattle.numbers.specs.Step.{rounded, steps, inRange}
 use Rattle.numbers.specs.Decimal.{before, after, significant, fraction, power, decimal}
-use Rattle.numbers.specs.Ratio.{decimalHeld}
+use Rattle.numbers.specs.Ratio.{decimalInBounds}
 use Rattle.times.specs.Datetime.{isDatetime}
 use Rattle.times.specs.Duration.{isDuration}
 use Rattle.entries.specs.Entries.{isIn, noneEmpty, noRepeats, isList, allIn}
-use Rattle.ranges.specs.Fields.{fieldsOf, fields}
-use Rattle.ranges.specs.Ranges.{bound, rangeOf, integerRange, floatRange, isInteger, isFloat, upTo}
-use Rattle.payload.specs.declared.Datatype.{Datatype}
-use Rattle.payload.specs.declared.Datatype.the-variants.{Integer, Float, Color, Datetime, Duration}
-use Rattle.text.specs.Ascii.{ascii}
+use Rattle.ranges.specs.Ranges.{eachRead, rangeOf, integerRange, floatRange, isInteger, isFloat, isFloatUpTo}
 use Rattle.payload.specs.Colors.{isColor}
 use Rattle.payload.specs.Payloads.{isPayload}
-
-pub data Example : Type 0 where
-  -- a datatype, a format, a payload, and whether it is valid
-  payload : Datatype → String → String → Bool → Example
-  -- a text, and whether it is an ID
-  id : String → Bool → Example
-
-abbrev pub examples : List Example
-examples =
-    payload Integer ":" "9223372036854775807" true
-    ∷ payload Integer ":" "9223372036854775808" false
-    ∷ payload Integer ":" "-" false
-    ∷ payload Integer "2:6:2" "1" true
-    ∷ payload Integer "2:6:2" "0" false
-    ∷ payload Integer "2:6:2" "7" false
-    ∷ payload Integer ":10:4" "12" false
-    ∷ payload Float ":" "1." false
-    ∷ payload Color "rgb,hsv,xyz" "rgb,0,255,1e2" true
-    ∷ payload Color "rgb,hsv,xyz" "xyz,1.01,0" false
-    ∷ payload Datetime "" "2023-02-29T00:00:00Z" false
-    ∷ payload Duration "" "PT" false
-    ∷ id "-a-" true
-    ∷ []
-
-abbrev pub holds : Example → Bool
-holds (payload d f s b) = Bool·beq (isPayload d (ascii f) (ascii s)) b
-holds (id s b) = Bool·beq (isId (ascii s)) b
-
-abbrev pub all : List Example → Bool
-all [] = true
-all (e ∷ es) = holds e && all es
+use Rattle.payload.specs.Examples.{examples, all}
 
 pub examples-hold : all examples ≡ true
-unfolding isPayload isColor isDatetime isDuration isInteger isFloat upTo integerRange floatRange rangeOf bound fields fieldsOf isList allIn isIn noneEmpty noRepeats
-    decimalHeld decimal before after significant fraction power rounded steps inRange value integer digits numeral isId idByte split onto eqBytes every accepts starts again isEmpty
+unfolding isPayload isColor isDatetime isDuration isInteger isFloat isFloatUpTo integerRange floatRange rangeOf eachRead isList allIn isIn noneEmpty noRepeats
+    decimalInBounds decimal before after significant fraction power rounded steps inRange value integer digits numeral isId idByte split onto eqBytes every accepts starts again isEmpty
 examples-hold = refl

@@ -8,13 +8,13 @@ use mathlib.Core.Option.{Option, none, some}
 use lib.ListN.{length}
 use lib.Dec.{leb}
 use borrow.Author.Tests.{leb-true}
+use Rattle.abnf.specs.Accepts.{isEmpty, again, starts, accepts}
 use Rattle.text.specs.Bytes.{eqBytes}
 use Rattle.text.specs.Split.{split, onto}
 use Rattle.text.specs.Ascii.{ascii}
 use Rattle.text.proofs.Bytes.{both, and-both}
 use Rattle.entries.specs.Entries.{isIn, noneEmpty, noRepeats, isList}
-use Rattle.ranges.specs.Fields.{fieldsOf, fields}
-use Rattle.ranges.specs.Ranges.{bound, rangeOf, integerRange, floatRange}
+use Rattle.ranges.specs.Ranges.{eachRead, rangeOf, integerRange, floatRange}
 use Rattle.payload.specs.declared.Datatype.{Datatype}
 use Rattle.payload.specs.declared.Datatype.the-variants.{String, Integer, Float, Boolean, Enum, Color, Datetime, Duration, Json}
 use Rattle.payload.specs.Formats.{isFormat, keptOf, whenMissing, keptFormat}
@@ -28,7 +28,7 @@ given : {a b : List ℕ} → some a ≡ some b → a ≡ b
 given e = cc
 
 missing-good : (d : Datatype) {f : List ℕ} → whenMissing d ≡ some f → Good d f
-unfolding whenMissing isFormat integerRange floatRange rangeOf bound fields fieldsOf isList isIn noneEmpty noRepeats split onto eqBytes
+unfolding whenMissing isFormat integerRange floatRange rangeOf eachRead isList isIn noneEmpty noRepeats split onto eqBytes accepts starts again isEmpty
 missing-good Integer e = rw (sym (given e)) (record { valid = refl; short = omega arith })
 missing-good Float e = rw (sym (given e)) (record { valid = refl; short = omega arith })
 missing-good Enum e = let z : _≡_ {A = ℕ} 0 1 = cc in absurd (omega arith)

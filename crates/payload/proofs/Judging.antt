@@ -3,18 +3,21 @@ use Prim.Native.Nat.{ℕ, zero, suc, _≤_}
 use native.Mathlib.Omega.{arith}
 use mathlib.Core.Path.{_≡_, refl, sym, ap, _∙_}
 use mathlib.Core.List.{List, [], _∷_}
-use mathlib.Core.Bool.{Bool, true, false, cond}
+use mathlib.Core.Bool.{Bool, true, false, cond, and-false}
 use mathlib.Core.Option.{Option, none, some}
-use lib.Dec.{eqb}
+use lib.Dec.{eqb, leb}
 use lib.ListN.{length, getD, List·getD-eq-default}
 use Rattle.payload.specs.declared.Datatype.{Datatype}
 use Rattle.payload.specs.declared.Datatype.the-variants.{String, Integer, Float, Boolean, Enum, Color, Datetime, Duration, Json}
+use Rattle.payload.specs.declared.Format.{Format}
+use Rattle.payload.specs.declared.Format.the-variants.{Bad, AsGiven}
 use Rattle.payload.specs.Datatypes.{datatypes, codeOf, datatypeAt, nameOf, datatypeNamed}
-use Rattle.payload.specs.Formats.{isFormat, keptOf, whenMissing, keptFormat, asked}
+use Rattle.payload.specs.Formats.{isFormat, keptOf, whenMissing, keptFormat, keptBytes, givenFormat}
 use Rattle.text.specs.Bytes.{eqBytes}
+use Rattle.text.proofs.Bytes.{both}
 use Rattle.text.specs.Utf8.{isUtf8}
 use Rattle.json.specs.Value.{isContainer}
-use Rattle.payload.specs.Payloads.{isString, isJson}
+use Rattle.payload.specs.Payloads.{isString, isJson, isOf, mayBe, isPayload, isPayloadUnder, isPayloadOf}
 
 pub pick-yes : {A : Type 0} {t : Bool} {a : A} (b : A) → t ≡ true → a ≡ cond t a b
 pick-yes b e = rw e
@@ -87,14 +90,58 @@ name-back Json = refl
 
 -- what is kept of a format
 module _ (d : Datatype) (f : List ℕ) (given : Bool) where
-  pub format-missing : {o : Option (List ℕ)} → given ≡ false → o ≡ whenMissing d → o ≡ keptFormat d (asked given f)
+  pub format-missing : {o : Option (List ℕ)} → given ≡ false → o ≡ whenMissing d → o ≡ keptFormat d (givenFormat given f)
   unfolding keptFormat
   format-missing e h = rw e h
 
-  pub format-bad : given ≡ true → isFormat d f ≡ false → none ≡ keptFormat d (asked given f)
+  pub format-bad : given ≡ true → isFormat d f ≡ false → none ≡ keptFormat d (givenFormat given f)
   unfolding keptFormat
   format-bad e h = rw (e, h)
 
-  pub format-good : {o : Option (List ℕ)} → given ≡ true → isFormat d f ≡ true → o ≡ some (keptOf d f) → o ≡ keptFormat d (asked given f)
+  pub format-good : {o : Option (List ℕ)} → given ≡ true → isFormat d f ≡ true → o ≡ some (keptOf d f) → o ≡ keptFormat d (givenFormat given f)
   unfolding keptFormat
   format-good e h g = rw (e, h) g
+
+-- a payload by a format that is given: by what is kept of it
+kept-alike : (d : Datatype) (f s : List ℕ) → isPayload d f s ≡ isPayload d (keptOf d f) s
+unfolding isPayload isFormat isOf keptOf
+kept-alike Integer f s = refl
+kept-alike Float f s = refl
+kept-alike Enum f s = refl
+kept-alike Color f s = refl
+kept-alike Boolean f s = refl
+kept-alike String f s = refl
+kept-alike Datetime f s = refl
+kept-alike Duration f s = refl
+kept-alike Json f s = refl
+
+bad-format : (d : Datatype) (f s : List ℕ) → isFormat d f ≡ false → isPayload d f s ≡ false
+unfolding isPayload
+bad-format d f s h = rw (h, and-false (mayBe d s), and-false (leb (length s) 48), and-false (leb 1 (length s)))
+
+pub payload-given : (d : Datatype) (f s : List ℕ) → isPayload d f s ≡ isPayloadOf d (some f) s
+unfolding isPayloadOf isPayloadUnder keptFormat
+payload-given d f s = both (isFormat d f) (λ h. rw h (kept-alike d f s)) (λ h. rw h (bad-format d f s h))
+
+-- and where none is given
+module _ (d : Datatype) (s : List ℕ) (r : Format) (h : (f : List ℕ) → keptBytes f r ≡ whenMissing d) where
+  pub none-missing : r ≡ Bad → false ≡ isPayloadOf d none s
+  unfolding isPayloadOf isPayloadUnder keptFormat
+  none-missing e = rw (sym (h []), e)
+
+  pub never-given : r ≡ AsGiven → false ≡ isPayloadOf d none s
+  never-given e =
+      let a : some [] ≡ whenMissing d = sym (ap (keptBytes []) e) ∙ h [] in
+      let b : some (0 ∷ []) ≡ whenMissing d = sym (ap (keptBytes (0 ∷ [])) e) ∙ h (0 ∷ []) in
+      let z : _≡_ {A = ℕ} 0 1 = cc in absurd (omega arith)
+
+  pub kept-missing : (x : Format) (f : List ℕ) {b : Bool} → r ≡ x → keptBytes [] x ≡ some f → b ≡ isPayload d f s → b ≡ isPayloadOf d none s
+  unfolding isPayloadOf isPayloadUnder keptFormat
+  kept-missing x f e k g = g ∙ rw (sym (h []), e, k)
+
+module _ (d : Datatype) (f s : List ℕ) (given : Bool) {r : Bool} where
+  pub judged-missing : given ≡ false → r ≡ isPayloadOf d none s → r ≡ isPayloadOf d (givenFormat given f) s
+  judged-missing e h = rw e h
+
+  pub judged-given : given ≡ true → r ≡ isPayload d f s → r ≡ isPayloadOf d (givenFormat given f) s
+  judged-given e h = rw e (h ∙ payload-given d f s)

@@ -5,7 +5,7 @@ use mathlib.Core.List.{List, [], _∷_}
 use mathlib.Core.Bool.{Bool, true, false, _&&_, cond}
 use Rattle.text.specs.Bytes.{eqBytes}
 use Rattle.entries.specs.Entries.{entriesOf, isIn}
-use Rattle.ranges.specs.Ranges.{upTo}
+use Rattle.ranges.specs.Ranges.{isFloatUpTo}
 use Rattle.text.specs.Ascii.{ascii}
 
 -- one float for each, from 0 to it
@@ -13,7 +13,7 @@ unfoldable pub floatsUpTo : List ℕ → List (List ℕ) → Bool
 floatsUpTo [] [] = true
 floatsUpTo [] (v ∷ vs) = false
 floatsUpTo (m ∷ ms) [] = false
-floatsUpTo (m ∷ ms) (v ∷ vs) = upTo m v && floatsUpTo ms vs
+floatsUpTo (m ∷ ms) (v ∷ vs) = isFloatUpTo m v && floatsUpTo ms vs
 
 unfoldable pub colorValues : List ℕ → List (List ℕ) → Bool
 unfolding floatsUpTo eqBytes

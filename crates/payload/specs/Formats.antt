@@ -14,8 +14,11 @@ use Rattle.payload.specs.declared.Format.the-variants as answers
 use Rattle.text.specs.Ascii.{ascii}
 
 -- "Formats, at most 64 bytes where kept"
+abbrev pub formatMost : ℕ
+formatMost = 64
+
 abbrev pub isShort : List ℕ → Bool
-isShort f = leb (length f) 64
+isShort f = leb (length f) formatMost
 
 -- which formats are valid
 unfoldable pub isFormat : Datatype → List ℕ → Bool
@@ -66,8 +69,8 @@ keptFormat d none = whenMissing d
 keptFormat d (some f) = cond (isFormat d f) (some (keptOf d f)) none
 
 -- the format that was asked about, if any was given
-abbrev pub asked : Bool → List ℕ → Option (List ℕ)
-asked given f = cond given (some f) none
+abbrev pub givenFormat : Bool → List ℕ → Option (List ℕ)
+givenFormat given f = cond given (some f) none
 
 -- what the answer of `judge_format` says
 abbrev pub keptBytes : List ℕ → Format → Option (List ℕ)

@@ -2,4 +2,5 @@ pub mod Datatypes
 pub mod Colors
 pub mod Formats
 pub mod Payloads
+pub mod Examples
 pub mod Parts

@@ -2,6 +2,7 @@
 use Prim.Native.Nat.{ℕ}
 use mathlib.Core.List.{List, [], _∷_}
 use mathlib.Core.Bool.{Bool, true, false, _&&_, _||_, cond}
+use mathlib.Core.Option.{Option, none, some}
 use lib.Dec.{leb}
 use lib.ListN.{length}
 use Rattle.text.specs.Bytes.{eqBytes}
@@ -15,7 +16,7 @@ use Rattle.payload.specs.declared.Datatype.{Datatype}
 use Rattle.payload.specs.declared.Datatype.the-variants.{String, Integer, Float, Boolean, Enum, Color, Datetime, Duration, Json}
 use Rattle.text.specs.Ascii.{ascii}
 use Rattle.payload.specs.Colors.{isColor}
-use Rattle.payload.specs.Formats.{isFormat}
+use Rattle.payload.specs.Formats.{isFormat, keptFormat}
 
 -- "json: one array or object with optional white space around." A JSON text is UTF-8 (RFC 8259, section 8.1).
 unfoldable pub isJson : List ℕ → Bool
@@ -50,6 +51,18 @@ unfoldable pub mayBe : Datatype → List ℕ → Bool
 mayBe d s = cond (eqBytes s (0 ∷ [])) (isString d) true
 
 -- "At most 48 bytes (ours), never empty." The format must itself be valid for the datatype.
+abbrev pub payloadMost : ℕ
+payloadMost = 48
+
 unfoldable pub isPayload : Datatype → List ℕ → List ℕ → Bool
 unfolding isFormat isOf mayBe
-isPayload d f s = leb 1 (length s) && (leb (length s) 48 && (mayBe d s && (isFormat d f && isOf d f s)))
+isPayload d f s = leb 1 (length s) && (leb (length s) payloadMost && (mayBe d s && (isFormat d f && isOf d f s)))
+
+unfoldable pub isPayloadUnder : Datatype → Option (List ℕ) → List ℕ → Bool
+isPayloadUnder d none s = false
+isPayloadUnder d (some kept) s = isPayload d kept s
+
+-- A payload of a property with this format, or with none: judged by the kept format. There is none where the given one is not valid, or where one is
+-- required and missing; then no payload is valid (ours: no such property can be declared).
+unfoldable pub isPayloadOf : Datatype → Option (List ℕ) → List ℕ → Bool
+isPayloadOf d format s = isPayloadUnder d (keptFormat d format) s

@@ -3,18 +3,23 @@ ghost use mathlib.Core.Path.{_≡_};
 ghost use mathlib.Core.Bool.{_||_};
 ghost use Prim.Native.Nat.{ℕ};
 ghost use mathlib.Core.List.{List, [], _∷_};
-ghost use mathlib.Core.Option.{some};
+ghost use mathlib.Core.Option.{none, some};
 ghost use Rattle.text.specs.Bytes.{eqBytes};
 ghost use Rattle.entries.specs.Parts.{from};
 ghost use Rattle.text.specs.Ascii.{ascii};
 ghost use Rattle.payload.specs.Datatypes.{datatypeNamed, named, codeOf, datatypeAt};
 ghost use Rattle.payload.specs.Colors.{floatsUpTo, isColor};
-ghost use Rattle.payload.specs.Formats.{isFormat, keptFormat, asked, keptBytes, keptOf, whenMissing};
-ghost use Rattle.payload.specs.Payloads.{isOf, mayBe, isPayload, isJson};
+ghost use Rattle.payload.specs.Formats.{isFormat, keptFormat, givenFormat, keptBytes, keptOf, whenMissing};
+ghost use Rattle.payload.specs.Payloads.{isOf, mayBe, isPayload, isPayloadOf, isJson};
 ghost use Rattle.payload.specs.Parts.{After};
 use ranges::FloatRange;
 use ranges::IntegerRange;
 use text::Part;
+
+// The most bytes of a kept format, and of a payload.
+pub const FORMAT_MOST: usize = 64;
+
+pub const PAYLOAD_MOST: usize = 48;
 
 pub enum Datatype {
     String,
@@ -184,11 +189,11 @@ fn is_color(format: &[u8], s: &[u8]) -> bool
 fn is_integer_format(f: &[u8]) -> bool
     ensures { λ r. ⌜ r ≡ isFormat Datatype.Integer (now (f .entry)) ⌝ }
 {
-    if 64 < f.len() {
+    if FORMAT_MOST < f.len() {
         return false;
     }
     match ranges::integer_range(f) {
-        IntegerRange::Within {
+        IntegerRange::Is {
             min: _,
             max: _,
             step: _,
@@ -200,11 +205,11 @@ fn is_integer_format(f: &[u8]) -> bool
 fn is_float_format(f: &[u8]) -> bool
     ensures { λ r. ⌜ r ≡ isFormat Datatype.Float (now (f .entry)) ⌝ }
 {
-    if 64 < f.len() {
+    if FORMAT_MOST < f.len() {
         return false;
     }
     match ranges::float_range(f) {
-        FloatRange::Within {
+        FloatRange::Is {
             min: _,
             max: _,
             step: _,
@@ -216,7 +221,7 @@ fn is_float_format(f: &[u8]) -> bool
 fn is_enum_format(f: &[u8]) -> bool
     ensures { λ r. ⌜ r ≡ isFormat Datatype.Enum (now (f .entry)) ⌝ }
 {
-    if 64 < f.len() {
+    if FORMAT_MOST < f.len() {
         return false;
     }
     entries::is_list(f)
@@ -225,7 +230,7 @@ fn is_enum_format(f: &[u8]) -> bool
 fn is_color_format(f: &[u8]) -> bool
     ensures { λ r. ⌜ r ≡ isFormat Datatype.Color (now (f .entry)) ⌝ }
 {
-    if 64 < f.len() {
+    if FORMAT_MOST < f.len() {
         return false;
     }
     if !entries::is_list(f) {
@@ -237,7 +242,7 @@ fn is_color_format(f: &[u8]) -> bool
 fn is_boolean_format(f: &[u8]) -> bool
     ensures { λ r. ⌜ r ≡ isFormat Datatype.Boolean (now (f .entry)) ⌝ }
 {
-    if 64 < f.len() {
+    if FORMAT_MOST < f.len() {
         return false;
     }
     if !entries::is_list(f) {
@@ -297,7 +302,7 @@ fn kept(d: Datatype) -> Format
 
 // What is kept of a property's format `f`, or where none is given.
 pub fn judge_format(d: Datatype, given: bool, f: &[u8]) -> Format
-    ensures { λ r. ⌜ keptBytes (now (f .entry)) r ≡ keptFormat d (asked given (now (f .entry))) ⌝ }
+    ensures { λ r. ⌜ keptBytes (now (f .entry)) r ≡ keptFormat d (givenFormat given (now (f .entry))) ⌝ }
 {
     if !given {
         return when_missing(d);
@@ -361,7 +366,7 @@ pub fn judge(d: Datatype, f: &[u8], s: &[u8]) -> bool
     if s.len() < 1 {
         return false;
     }
-    if 48 < s.len() {
+    if PAYLOAD_MOST < s.len() {
         return false;
     }
     if !may_be(d, s) {
@@ -371,4 +376,26 @@ pub fn judge(d: Datatype, f: &[u8], s: &[u8]) -> bool
         return false;
     }
     is_of(d, f, s)
+}
+
+fn judge_missing(d: Datatype, s: &[u8]) -> bool
+    ensures { λ r. ⌜ r ≡ isPayloadOf d none (now (s .entry)) ⌝ }
+{
+    match when_missing(d) {
+        Format::Bad => false,
+        Format::AsGiven => false,
+        Format::Colon => judge(d, b":", s),
+        Format::FalseTrue => judge(d, b"false,true", s),
+        Format::NotKept => judge(d, b"", s),
+    }
+}
+
+// A payload that is valid for a property of the datatype that has the format `f`, or where none is given.
+pub fn judge_payload(d: Datatype, given: bool, f: &[u8], s: &[u8]) -> bool
+    ensures { λ r. ⌜ r ≡ isPayloadOf d (givenFormat given (now (f .entry))) (now (s .entry)) ⌝ }
+{
+    if given {
+        return judge(d, f, s);
+    }
+    judge_missing(d, s)
 }

@@ -13,32 +13,32 @@ use lib.Seq.{drop-cons, take-suc, take-suc-set, drop-set-lt, append-snoc}
 use borrow.Author.Tests.{lt-ltb, le-ltb, leb-true, leb-false}
 use Rattle.text.specs.Bytes.{eqBytes, lessBytes}
 use Rattle.text.proofs.Bytes.{both, at-most}
-use Rattle.fields.specs.Values.{textAt}
+use Rattle.fields.specs.Values.{stringBytes}
 use Rattle.fields.proofs.Rules.{or-neither}
 use Rattle.properties.specs.declared.Entry.{Entry}
 use Rattle.properties.specs.declared.Entries.{Entries}
 use Rattle.properties.specs.Property.{Property, isBefore, insert}
-use Rattle.properties.specs.Entries.{content, contents, view, put}
+use Rattle.properties.specs.Entries.{content, contents, view, addProperty}
 
 -- ---- the order
 
-module _ (s : List ℕ) (x y : Entry) {a b : List ℕ} (p : a ≡ textAt s (x .node)) (q : b ≡ textAt s (y .node)) {l : Bool} (e : l ≡ lessBytes a b) where
-  less : l ≡ lessBytes (textAt s (x .node)) (textAt s (y .node))
+module _ (s : List ℕ) (x y : Entry) {a b : List ℕ} (p : a ≡ stringBytes s (x .node)) (q : b ≡ stringBytes s (y .node)) {l : Bool} (e : l ≡ lessBytes a b) where
+  less : l ≡ lessBytes (stringBytes s (x .node)) (stringBytes s (y .node))
   less = e ∙ rw (p, q)
 
   pub before-yes : l ≡ true → true ≡ isBefore (content s x) (content s y)
   unfolding isBefore content
   before-yes h = rw (sym less ∙ h)
 
-  module _ (h : l ≡ false) {c d : List ℕ} (p₂ : c ≡ textAt s (x .node)) (q₂ : d ≡ textAt s (y .node)) {m : Bool} (f : m ≡ eqBytes c d) where
-    eq : m ≡ eqBytes (textAt s (x .node)) (textAt s (y .node))
+  module _ (h : l ≡ false) {c d : List ℕ} (p₂ : c ≡ stringBytes s (x .node)) (q₂ : d ≡ stringBytes s (y .node)) {m : Bool} (f : m ≡ eqBytes c d) where
+    eq : m ≡ eqBytes (stringBytes s (x .node)) (stringBytes s (y .node))
     eq = f ∙ rw (p₂, q₂)
 
     pub before-no : m ≡ false → false ≡ isBefore (content s x) (content s y)
     unfolding isBefore content
     before-no k = rw (sym less ∙ h, sym eq ∙ k)
 
-    pub before-ids : {t u : List ℕ} {r : Bool} → m ≡ true → t ≡ textAt s (x .id) → u ≡ textAt s (y .id) → r ≡ lessBytes t u → r ≡ isBefore (content s x) (content s y)
+    pub before-ids : {t u : List ℕ} {r : Bool} → m ≡ true → t ≡ stringBytes s (x .id) → u ≡ stringBytes s (y .id) → r ≡ lessBytes t u → r ≡ isBefore (content s x) (content s y)
     unfolding isBefore content
     before-ids k v w z = z ∙ rw (sym less ∙ h, sym eq ∙ k, v, w)
 
@@ -192,19 +192,19 @@ module _ (over : Bool) (n : ℕ) {f : Bool} (p : f ≡ (over || leb 24 n)) (e : 
   room-for = leb-false 24 n (or-neither over (leb 24 n) (sym p ∙ e) .1)
 
 module _ (s : List ℕ) (e : Entry) (l r : Entries) (k : length (l .items) ≡ 24) where
-  pub put-full : {f : Bool} → f ≡ (l .over || leb 24 (l .n)) → f ≡ true → r .over ≡ true → view s r ≡ put (content s e) (view s l)
-  unfolding put
+  pub put-full : {f : Bool} → f ≡ (l .over || leb 24 (l .n)) → f ≡ true → r .over ≡ true → view s r ≡ addProperty (content s e) (view s l)
+  unfolding addProperty
   put-full p q b = view-over s r b ∙ both (l .over)
-      (λ o. sym (rw (view-over s l o, put)))
+      (λ o. sym (rw (view-over s l o, addProperty)))
       (λ o. let h : 24 ≤ l .n = leb-true 24 (l .n) (rw o at (sym p ∙ q)) in
       at-most (l .n) 24
-      (λ m. sym (rw (view-some s l o m, put) (rw (contents-length s (take (l .n) (l .items)), le-ltb (length (take (l .n) (l .items))) 24 (simp length-take (omega (arith, k)))))))
-      (λ m. sym (rw (view-many s l m, put))))
+      (λ m. sym (rw (view-some s l o m, addProperty) (rw (contents-length s (take (l .n) (l .items)), le-ltb (length (take (l .n) (l .items))) 24 (simp length-take (omega (arith, k)))))))
+      (λ m. sym (rw (view-many s l m, addProperty))))
 
   pub put-some : {items : List Entry} {carry : Entry} {placed : Bool} {j : ℕ} (blank : Entry) → l .over ≡ false → Carrying s (l .n) (insert (content s e) (contents s (take (l .n) (l .items)))) items carry placed j → l .n ≤ j
-      → r .over ≡ false → r .n ≡ l .n + 1 → r .items ≡ set items (l .n) carry → view s r ≡ put (content s e) (view s l)
-  unfolding put
+      → r .over ≡ false → r .n ≡ l .n + 1 → r .items ≡ set items (l .n) carry → view s r ≡ addProperty (content s e) (view s l)
+  unfolding addProperty
   put-some {items} {carry} {placed} {j} blank o w h b c d =
       let x : contents s (take (r .n) (r .items)) ≡ insert (content s e) (contents s (take (l .n) (l .items))) = rw (c, d) (carry-done blank s (l .n) (insert (content s e) (contents s (take (l .n) (l .items)))) items carry placed j w h) in
       view-some s r b (omega (arith, c, w .room)) ∙ ap some x
-      ∙ sym (rw (view-some s l o (omega (arith, w .room)), put) (rw (contents-length s (take (l .n) (l .items)), lt-ltb (length (take (l .n) (l .items))) 24 (simp length-take (omega (arith, k, w .room))))))
+      ∙ sym (rw (view-some s l o (omega (arith, w .room)), addProperty) (rw (contents-length s (take (l .n) (l .items)), lt-ltb (length (take (l .n) (l .items))) 24 (simp length-take (omega (arith, k, w .room))))))

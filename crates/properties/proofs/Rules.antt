@@ -4,7 +4,7 @@ use mathlib.Core.Path.{_≡_, refl, sym, ap, _∙_}
 use mathlib.Core.List.{List, [], _∷_}
 use mathlib.Core.Bool.{Bool, true, false, _&&_}
 use mathlib.Core.Option.{Option, none, some}
-use Rattle.fields.specs.Values.{textAt, isText, isObject, isPlain, members}
+use Rattle.fields.specs.Values.{stringBytes, isStringAt, isObject, isPlain, members}
 use Rattle.fields.specs.Fields.{pairs, field, holds, optional, textIn, flagIn, plainIn}
 use Rattle.fields.specs.Members.{pairsOf, fieldOf}
 use Rattle.fields.specs.declared.Members.{Members}
@@ -13,7 +13,7 @@ use Rattle.fields.proofs.Table.{field-of, plain-of}
 use Rattle.fields.specs.declared.Field.{Field}
 use Rattle.fields.specs.declared.Field.the-variants.{Absent, One, Twice}
 use Rattle.payload.specs.Datatypes.{named, datatypeNamed}
-use Rattle.payload.specs.Formats.{keptFormat, keptBytes, asked}
+use Rattle.payload.specs.Formats.{keptFormat, keptBytes, givenFormat}
 use Rattle.payload.specs.declared.Datatype.{Datatype}
 use Rattle.payload.specs.declared.Datatype.the-variants.{String}
 use Rattle.payload.specs.declared.Named.{Named}
@@ -22,7 +22,7 @@ use Rattle.payload.specs.declared.Format.{Format}
 use Rattle.payload.specs.declared.Format.the-variants.{Bad, AsGiven, Colon, FalseTrue, NotKept}
 use Rattle.properties.specs.declared.Entry.{Entry}
 use Rattle.properties.specs.Names.{datatype, name, unit, format, settable, retained}
-use Rattle.properties.specs.Property.{datatypeIn, isNamed, plainText, formatFits, propertyRules, Property, typeOf, textOf, propertyAt}
+use Rattle.properties.specs.Property.{datatypeIn, isKnown, plainText, formatFits, propertyRules, Property, typeOf, textOf, propertyAt}
 use Rattle.properties.specs.Parts.{isOne}
 use Rattle.properties.specs.Entries.{content}
 
@@ -37,12 +37,12 @@ module _ (s : List ℕ) {f : Field} where
   unfolding datatypeIn
   type-twice q = rw q
 
-  module _ {k : ℕ} (q : f ≡ One k) {b : Bool} (p : b ≡ isText s k) where
+  module _ {k : ℕ} (q : f ≡ One k) {b : Bool} (p : b ≡ isStringAt s k) where
     pub type-other : b ≡ false → none ≡ datatypeIn s f
     unfolding datatypeIn
     type-other x = rw (q, datatypeIn) (rw (sym p ∙ x))
 
-    pub type-text : {t : List ℕ} (r : Named) → b ≡ true → t ≡ textAt s k → named r ≡ datatypeNamed t → named r ≡ datatypeIn s f
+    pub type-text : {t : List ℕ} (r : Named) → b ≡ true → t ≡ stringBytes s k → named r ≡ datatypeNamed t → named r ≡ datatypeIn s f
     unfolding datatypeIn
     type-text r x y z = z ∙ ap datatypeNamed y ∙ sym (rw (q, datatypeIn) (rw (sym p ∙ x)))
 
@@ -82,7 +82,7 @@ module _ (s : List ℕ) {f : Field} where
   unfolding textOf textIn
   text-absent q = rw q
 
-  pub text-one : {k : ℕ} {t : List ℕ} → f ≡ One k → t ≡ textAt s k → t ≡ textOf (textIn s f)
+  pub text-one : {k : ℕ} {t : List ℕ} → f ≡ One k → t ≡ stringBytes s k → t ≡ textOf (textIn s f)
   unfolding textOf textIn
   text-one q x = x ∙ sym (rw q)
 
@@ -104,13 +104,13 @@ module _ {f : Field} where
   one-twice q = rw q
 
 -- a field's string is what was asked about
-asks : (s : List ℕ) (f : Field) → asked (isOne f) (textOf (textIn s f)) ≡ textIn s f
+asks : (s : List ℕ) (f : Field) → givenFormat (isOne f) (textOf (textIn s f)) ≡ textIn s f
 unfolding isOne textOf textIn
 asks s Absent = refl
 asks s (One k) = refl
 asks s Twice = refl
 
-pub kept-is : (s : List ℕ) (d : Datatype) (f : Field) {b : Bool} {t : List ℕ} (r : Format) → b ≡ isOne f → t ≡ textOf (textIn s f) → keptBytes t r ≡ keptFormat d (asked b t)
+pub kept-is : (s : List ℕ) (d : Datatype) (f : Field) {b : Bool} {t : List ℕ} (r : Format) → b ≡ isOne f → t ≡ textOf (textIn s f) → keptBytes t r ≡ keptFormat d (givenFormat b t)
     → keptBytes (textOf (textIn s f)) r ≡ keptFormat d (textIn s f)
 kept-is s d f {b} {t} r p q x = ap (λ (u : List ℕ). keptBytes u r) (sym q) ∙ x ∙ ap (keptFormat d) (rw (p, q) (asks s f))
 
@@ -121,12 +121,12 @@ fits-is s d f k p x z = z ∙ ap (λ (u : List ℕ). plainText (keptBytes u k)) 
 
 -- by the datatype's case
 module _ {o : Option Datatype} where
-  pub named-no : o ≡ none → false ≡ isNamed o
-  unfolding isNamed
+  pub named-no : o ≡ none → false ≡ isKnown o
+  unfolding isKnown
   named-no q = rw q
 
-  pub named-yes : {d : Datatype} → o ≡ some d → true ≡ isNamed o
-  unfolding isNamed
+  pub named-yes : {d : Datatype} → o ≡ some d → true ≡ isKnown o
+  unfolding isKnown
   named-yes q = rw q
 
   pub fit-none : (g : Option (List ℕ)) → o ≡ none → true ≡ formatFits o g
@@ -142,7 +142,7 @@ unfoldable pub rulesIn : List ℕ → ℕ → Members → List Bool
 rulesIn s k m =
     isObject s k ∷
     plainIn (pairsOf s m) ∷
-    isNamed (datatypeIn s (fieldOf s m datatype)) ∷
+    isKnown (datatypeIn s (fieldOf s m datatype)) ∷
     optional Text s (fieldOf s m name) ∷
     optional Text s (fieldOf s m unit) ∷
     optional Text s (fieldOf s m format) ∷

@@ -5,7 +5,7 @@ use mathlib.Core.List.{List, []}
 use mathlib.Core.Bool.{true}
 use mathlib.Core.Option.{some}
 use Rattle.text.specs.Ids.{isId}
-use Rattle.fields.specs.Values.{textAt, isPlain}
+use Rattle.fields.specs.Values.{stringBytes, isPlain}
 use Rattle.fields.specs.Fields.{holds}
 use Rattle.payload.specs.Datatypes.{datatypeNamed}
 use Rattle.payload.specs.declared.Datatype.{Datatype}
@@ -20,7 +20,7 @@ pub datatype-plain : (t : List ℕ) (d : Datatype) → datatypeNamed t ≡ some 
 datatype-plain = plain.datatype-plain
 
 -- a property that keeps the rules, named by two IDs
-pub valid : (s : List ℕ) (node id k : ℕ) → isId (textAt s node) ≡ true → isId (textAt s id) ≡ true → holds (propertyRules s k) ≡ true → Valid (propertyAt s node id k)
+pub valid : (s : List ℕ) (node id k : ℕ) → isId (stringBytes s node) ≡ true → isId (stringBytes s id) ≡ true → holds (propertyRules s k) ≡ true → Valid (propertyAt s node id k)
 valid = valid-at
 
 -- "by node ID, then property ID": properties of which no two have the same two IDs are put in that order, all of them

@@ -6,14 +6,14 @@ use mathlib.Core.Bool.{Bool, true, false, false≢true}
 use mathlib.Core.Option.{Option, none, some}
 use lib.ListN.{length}
 use Rattle.text.specs.Ids.{isId}
-use Rattle.fields.specs.Values.{textAt}
+use Rattle.fields.specs.Values.{stringBytes}
 use Rattle.fields.specs.Fields.{holds, field, textIn}
 use Rattle.fields.proofs.Rules.{rule-at}
 use Rattle.payload.specs.Formats.{isFormat, keptFormat}
 use Rattle.payload.specs.declared.Datatype.{Datatype}
 use Rattle.payload.proofs.Theorems.{kept-valid, kept-short}
 use Rattle.properties.specs.Names.{datatype, format}
-use Rattle.properties.specs.Property.{datatypeIn, isNamed, plainText, formatFits, propertyRules, typeOf, textOf, propertyAt}
+use Rattle.properties.specs.Property.{datatypeIn, isKnown, plainText, formatFits, propertyRules, typeOf, textOf, propertyAt}
 use Rattle.properties.specs.Valid.{Valid}
 
 -- a format that fits is kept
@@ -29,12 +29,12 @@ kept d g h = go (keptFormat d g) refl h
     go none e p = absurd (false≢true p)
     go (some f) e p = record { valid = rw e (kept-valid d g f e); short = rw e (kept-short d g f e) }
 
-fitting : (o : Option Datatype) (g : Option (List ℕ)) → isNamed o ≡ true → formatFits o g ≡ true → Kept (typeOf o) g
-unfolding isNamed formatFits typeOf
+fitting : (o : Option Datatype) (g : Option (List ℕ)) → isKnown o ≡ true → formatFits o g ≡ true → Kept (typeOf o) g
+unfolding isKnown formatFits typeOf
 fitting none g n h = absurd (false≢true n)
 fitting (some d) g n h = kept d g h
 
-pub valid-at : (s : List ℕ) (node id k : ℕ) → isId (textAt s node) ≡ true → isId (textAt s id) ≡ true → holds (propertyRules s k) ≡ true → Valid (propertyAt s node id k)
+pub valid-at : (s : List ℕ) (node id k : ℕ) → isId (stringBytes s node) ≡ true → isId (stringBytes s id) ≡ true → holds (propertyRules s k) ≡ true → Valid (propertyAt s node id k)
 unfolding propertyRules propertyAt
 valid-at s node id k n i h =
     let f = fitting (datatypeIn s (field s k datatype)) (textIn s (field s k format)) (rule-at (propertyRules s k) 2 h) (rule-at (propertyRules s k) 6 h) in

@@ -5,7 +5,7 @@ use mathlib.Core.Bool.{Bool, true, false, _||_, cond}
 use mathlib.Core.Option.{Option, none, some}
 use lib.ListN.{length, take}
 use lib.Dec.{leb, ltb}
-use Rattle.fields.specs.Values.{textAt}
+use Rattle.fields.specs.Values.{stringBytes}
 use Rattle.fields.specs.Fields.{textIn}
 use Rattle.payload.specs.Formats.{keptBytes}
 use Rattle.properties.specs.declared.Entry.{Entry}
@@ -15,8 +15,8 @@ use Rattle.properties.specs.Property.{Property, textOf, insert, insertAl
 -- `Bad`, which no valid property has, reads as the empty string, as `NotKept` does: which of the two an entry has changes nothing that it means
 unfoldable pub content : List ℕ → Entry → Property
 content s e = record {
-  node = textAt s (e .node);
-  id = textAt s (e .id);
+  node = stringBytes s (e .node);
+  id = stringBytes s (e .id);
   datatype = e .datatype;
   format = textOf (keptBytes (textOf (textIn s (e .format))) (e .kept));
   settable = e .settable;
@@ -32,13 +32,13 @@ unfoldable pub view : List ℕ → Entries → Option (List Property)
 view s l = cond (l .over || ltb 24 (l .n)) none (some (contents s (take (l .n) (l .items))))
 
 -- Paper 01, "The description": "At most 24 properties in all."
-unfoldable pub put : Property → Option (List Property) → Option (List Property)
-put p none = none
-put p (some ps) = elim (ltb (length ps) 24) [ true ↦ some (insert p ps) | false ↦ none ]
+unfoldable pub addProperty : Property → Option (List Property) → Option (List Property)
+addProperty p none = none
+addProperty p (some ps) = elim (ltb (length ps) 24) [ true ↦ some (insert p ps) | false ↦ none ]
 
-unfoldable pub putAll : List Property → Option (List Property) → Option (List Property)
-putAll [] l = l
-putAll (p ∷ ps) l = putAll ps (put p l)
+unfoldable pub addProperties : List Property → Option (List Property) → Option (List Property)
+addProperties [] l = l
+addProperties (p ∷ ps) l = addProperties ps (addProperty p l)
 
 -- the properties in their order, or none where there are more than 24
 unfoldable pub collected : List Property → Option (List Property)

@@ -4,7 +4,7 @@ use mathlib.Core.List.{List, [], _∷_}
 use mathlib.Core.Bool.{Bool, true, false, _&&_, _||_}
 use mathlib.Core.Option.{Option, none, some}
 use Rattle.text.specs.Bytes.{eqBytes, lessBytes}
-use Rattle.fields.specs.Values.{textAt, isText, isObject, isPlain}
+use Rattle.fields.specs.Values.{stringBytes, isStringAt, isObject, isPlain}
 use Rattle.fields.specs.Fields.{field, optional, textIn, flagIn, plainNames}
 use Rattle.fields.specs.declared.Field.{Field}
 use Rattle.fields.specs.declared.Field.the-variants.{Absent, One, Twice}
@@ -18,12 +18,12 @@ use Rattle.properties.specs.Names.{datatype, name, unit, format, settabl
 -- "`datatype` (required, one of the nine above)": the datatype that a field names
 unfoldable pub datatypeIn : List ℕ → Field → Option Datatype
 datatypeIn s Absent = none
-datatypeIn s (One k) = elim (isText s k) [ true ↦ datatypeNamed (textAt s k) | false ↦ none ]
+datatypeIn s (One k) = elim (isStringAt s k) [ true ↦ datatypeNamed (stringBytes s k) | false ↦ none ]
 datatypeIn s Twice = none
 
-unfoldable pub isNamed : Option Datatype → Bool
-isNamed none = false
-isNamed (some d) = true
+unfoldable pub isKnown : Option Datatype → Bool
+isKnown none = false
+isKnown (some d) = true
 
 -- "House rule: no backslash in .. a kept `format`"
 unfoldable pub plainText : Option (List ℕ) → Bool
@@ -41,7 +41,7 @@ unfoldable pub propertyRules : List ℕ → ℕ → List Bool
 propertyRules s k =
     isObject s k ∷
     plainNames s k ∷
-    isNamed (datatypeIn s (field s k datatype)) ∷
+    isKnown (datatypeIn s (field s k datatype)) ∷
     optional Text s (field s k name) ∷
     optional Text s (field s k unit) ∷
     optional Text s (field s k format) ∷
@@ -71,8 +71,8 @@ textOf (some t) = t
 -- the property whose object is at k; the strings at `node` and `id` name it
 unfoldable pub propertyAt : List ℕ → ℕ → ℕ → ℕ → Property
 propertyAt s node id k = record {
-  node = textAt s node;
-  id = textAt s id;
+  node = stringBytes s node;
+  id = stringBytes s id;
   datatype = typeOf (datatypeIn s (field s k datatype));
   format = textOf (keptFormat (typeOf (datatypeIn s (field s k datatype))) (textIn s (field s k format)));
   settable = flagIn s false (field s k settable);

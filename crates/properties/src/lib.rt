@@ -16,9 +16,9 @@ ghost use Rattle.payload.specs.Formats.{keptFormat, keptBytes};
 ghost use Rattle.fields.specs.Fields.{textIn, holds};
 ghost use Rattle.fields.specs.Members.{fieldOf};
 ghost use Rattle.properties.specs.Names.{datatype, format};
-ghost use Rattle.properties.specs.Property.{isBefore, datatypeIn, isNamed, plainText, formatFits, propertyRules, typeOf, textOf, propertyAt};
+ghost use Rattle.properties.specs.Property.{isBefore, datatypeIn, isKnown, plainText, formatFits, propertyRules, typeOf, textOf, propertyAt};
 ghost use Rattle.properties.specs.Parts.{isOne};
-ghost use Rattle.properties.specs.Entries.{content, view, put};
+ghost use Rattle.properties.specs.Entries.{content, view, addProperty};
 
 // A property: the places of its node's ID and its own, strings in the text, and what it declares.
 pub struct Entry {
@@ -91,7 +91,7 @@ fn is_full(over: bool, n: usize) -> bool
 
 // The list with one more, in its place.
 pub fn insert(s: &[u8], e: Entry, l: Entries) -> Entries
-    ensures { λ r. ⌜ view (now (s .entry)) r ≡ put (content (now (s .entry)) e) (view (now (s .entry)) l) ⌝ }
+    ensures { λ r. ⌜ view (now (s .entry)) r ≡ addProperty (content (now (s .entry)) e) (view (now (s .entry)) l) ⌝ }
 {
     let over = l.over;
     let n = l.n;
@@ -190,7 +190,7 @@ fn format_fits(s: &[u8], d: Datatype, f: Field) -> bool
 
 // Whether the property with these members names a datatype.
 fn has_datatype(s: &[u8], m: Members) -> bool
-    ensures { λ r. ⌜ r ≡ isNamed (datatypeIn (now (s .entry)) (fieldOf (now (s .entry)) m datatype)) ⌝ }
+    ensures { λ r. ⌜ r ≡ isKnown (datatypeIn (now (s .entry)) (fieldOf (now (s .entry)) m datatype)) ⌝ }
 {
     match datatype_in(s, fields::lookup_in(s, m, b"datatype")) {
         Named::Unknown => false,

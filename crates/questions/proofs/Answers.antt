@@ -8,7 +8,7 @@ use mathlib.Core.Option.{Option}
 use lib.IntN.{ℤ}
 use lib.ListN.{length, getD}
 use Rattle.answer.specs.Answer.{Answer, refused, gives, andThen}
-use Rattle.memory.specs.Bytes.{part}
+use Rattle.memory.specs.Bytes.{span}
 use Rattle.memory.specs.Layout.{roomSize, roomAt, slot}
 use Rattle.book.specs.Book.{question}
 use Rattle.rules.specs.Table.{Device}
@@ -36,13 +36,13 @@ module _ (q : Question) (m id : List ℕ) (x : Sought) (sought : Seeks m id x) (
   pub refusal : (n : ℕ) → x ≡ Refused n → Did (question q) m m (refused n)
   refusal n e = asked q m (refused n) (subst (λ (a : Answer Value). Says m a (refused n)) (sym is) (subst (Seeks m id) e sought f))
 
-  pub answer : (start : ℕ) (a : Answer Value) → x ≡ Room start → a ≡ f (deviceOf (part m start roomSize)) → Did (question q) m m a
+  pub answer : (start : ℕ) (a : Answer Value) → x ≡ Room start → a ≡ f (deviceOf (span m start roomSize)) → Did (question q) m m a
   answer start a e h =
       let r : RoomOf m start (find id (means m .now .devices)) = subst (Seeks m id) e sought in
-      asked q m a (is-sound m (reply (means m .now) q) a (r .sound) (there (find id (means m .now .devices)) (deviceOf (part m start roomSize)) f a (r .holds) h ∙ sym is))
+      asked q m a (is-sound m (reply (means m .now) q) a (r .sound) (there (find id (means m .now .devices)) (deviceOf (span m start roomSize)) f a (r .holds) h ∙ sym is))
 
   -- from the room's bytes
-  pub answer-in : (start : ℕ) (room : List ℕ) (a : Answer Value) → x ≡ Room start → room ≡ part m start roomSize → a ≡ f (deviceOf room) → Did (question q) m m a
+  pub answer-in : (start : ℕ) (room : List ℕ) (a : Answer Value) → x ≡ Room start → room ≡ span m start roomSize → a ≡ f (deviceOf room) → Did (question q) m m a
   answer-in start room a e g h = answer start a e (h ∙ ap (λ (t : List ℕ). f (deviceOf t)) g)
 
 pub found-room : (m id : List ℕ) (x : Sought) (start : ℕ) → Seeks m id x → x ≡ Room start → RoomOf m start (find id (means m .now .devices))
@@ -77,9 +77,9 @@ nth-none m i n s e h = sound-asked (askNth i) m (refused 3) s (not-there (at i (
 pub nth-room : (m : List ℕ) (i n start : ℕ) → Sound m → n ≡ length (means m .now .devices) → i < n → start ≡ roomAt (slot m i) → RoomOf m start (at i (means m .now .devices))
 nth-room m i n start s e h g = room-of m i start (at i (means m .now .devices)) s (omega arith) g (at-some i (means m .now .devices) (deviceOf []) (omega arith))
 
-pub nth-says : (m : List ℕ) (i start : ℕ) (a : Answer Value) → RoomOf m start (at i (means m .now .devices)) → a ≡ gives (anId (deviceOf (part m start roomSize) .id)) → Did (question (askNth i)) m m a
+pub nth-says : (m : List ℕ) (i start : ℕ) (a : Answer Value) → RoomOf m start (at i (means m .now .devices)) → a ≡ gives (anId (deviceOf (span m start roomSize) .id)) → Did (question (askNth i)) m m a
 unfolding reply
-nth-says m i start a r h = sound-asked (askNth i) m a (r .sound) (there (at i (means m .now .devices)) (deviceOf (part m start roomSize)) (λ v. gives (anId (v .id))) a (r .holds) h)
+nth-says m i start a r h = sound-asked (askNth i) m a (r .sound) (there (at i (means m .now .devices)) (deviceOf (span m start roomSize)) (λ v. gives (anId (v .id))) a (r .holds) h)
 
 -- ---- version and last time
 

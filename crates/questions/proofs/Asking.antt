@@ -5,7 +5,7 @@ use mathlib.Core.Path.{_≡_, refl, sym, ap, _∙_}
 use mathlib.Core.List.{List, []}
 use lib.ListN.{length, getD, length-take}
 use Rattle.answer.specs.Answer.{Answer, refused, gives, andThen}
-use Rattle.memory.specs.Bytes.{part}
+use Rattle.memory.specs.Bytes.{span}
 use Rattle.memory.specs.Layout.{roomSize, roomAt, capacity, slot}
 use Rattle.memory.specs.State.{state, roomOf, number, devices}
 use Rattle.text.specs.Bytes.{eqBytes}
@@ -59,7 +59,7 @@ few m s = omega (arith, length-map deviceOf (devices (state m .now)), length-tak
 pub room-of : (m : List ℕ) (i start : ℕ) (v : Answer Device) → Sound m → i < length (means m .now .devices) → start ≡ roomAt (slot m i) → v ≡ gives (getD (means m .now .devices) i (deviceOf [])) → RoomOf m start v
 room-of m i start v s h e f =
     let k : i < capacity m = omega (arith, few m (s .memory)) in
-    let g : part m start roomSize ≡ roomOf (state m .now) i = ap (λ (a : ℕ). part m a roomSize) e ∙ sym (memory.room-is m (s .memory) i k) in
+    let g : span m start roomSize ≡ roomOf (state m .now) i = ap (λ (a : ℕ). span m a roomSize) e ∙ sym (memory.room-is m (s .memory) i k) in
     record {
       sound = s;
       inside = omega (arith, memory.room-inside m (s .memory) i k);

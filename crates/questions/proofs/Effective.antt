@@ -5,9 +5,9 @@ use mathlib.Core.Bool.{Bool, true, false, cond, false≢true}
 use mathlib.Core.List.{List}
 use mathlib.Core.Option.{none, some}
 use Rattle.answer.specs.Answer.{Answer, refused, gives, andThen}
-use Rattle.topic.specs.declared.Place.{Place}
-use Rattle.topic.specs.Meaning.{bytesAt}
-use Rattle.memory.specs.Bytes.{part}
+use Rattle.text.specs.declared.Place.{Place}
+use Rattle.text.specs.Places.{bytesAt}
+use Rattle.memory.specs.Bytes.{span}
 use Rattle.memory.specs.Layout.{roomSize}
 use Rattle.rules.specs.declared.DeviceState.{DeviceState}
 use Rattle.rules.specs.declared.DeviceState.the-variants.{Lost}
@@ -44,7 +44,7 @@ not-lost m id x n s h e = go (find id (means m .now .devices)) (subst (Seeks m i
         differ : _≡_ {A = Answer Value} (refused n) (gives (table-says v)) → ⊥
         differ z′ = false≢true (sym (ap told z′))
 
-pub is-lost : (m id : List ℕ) (start : ℕ) (room : List ℕ) (r : Bool) → RoomOf m start (find id (means m .now .devices)) → room ≡ part m start roomSize → r ≡ foundLost (gives (deviceOf room)) → r ≡ foundLost (find id (means m .now .devices))
+pub is-lost : (m id : List ℕ) (start : ℕ) (room : List ℕ) (r : Bool) → RoomOf m start (find id (means m .now .devices)) → room ≡ span m start roomSize → r ≡ foundLost (gives (deviceOf room)) → r ≡ foundLost (find id (means m .now .devices))
 is-lost m id start room r h g e = e ∙ (ap (λ (t : List ℕ). foundLost (gives (deviceOf t))) g ∙ ap foundLost (sym (h .holds)))
 
 module _ (ds : List Device) (v : Device) where

@@ -7,9 +7,9 @@ use mathlib.Core.List.{List}
 use mathlib.Core.Option.{Option, none, some}
 use lib.ListN.{length, getD}
 use Rattle.answer.specs.Answer.{Answer, gives, andThen}
-use Rattle.topic.specs.declared.Place.{Place}
-use Rattle.topic.specs.Meaning.{bytesAt, Within}
-use Rattle.memory.specs.Bytes.{part}
+use Rattle.text.specs.declared.Place.{Place}
+use Rattle.text.specs.Places.{bytesAt, Within}
+use Rattle.memory.specs.Bytes.{span}
 use Rattle.memory.specs.Layout.{roomSize}
 use Rattle.properties.specs.Property as declaration
 use Rattle.rules.specs.declared.LaneKind.{LaneKind}
@@ -38,22 +38,22 @@ use Rattle.questions.proofs.Rooms.{inside-at, in-room, moved-on}
 
 -- ---- a device's ID, root and parent
 
-pub id-shown : (m room : List ℕ) (start : ℕ) (p q : Place) → start + roomSize ≤ length m → room ≡ part m start roomSize → TextIn room (deviceOf room .id) p → q ≡ shifted start p → Shown (saysId m (id.At q)) (gives (anId (deviceOf (part m start roomSize) .id))) (Within (length m) q)
+pub id-shown : (m room : List ℕ) (start : ℕ) (p q : Place) → start + roomSize ≤ length m → room ≡ span m start roomSize → TextIn room (deviceOf room .id) p → q ≡ shifted start p → Shown (saysId m (id.At q)) (gives (anId (deviceOf (span m start roomSize) .id))) (Within (length m) q)
 unfolding saysId
 id-shown m room start p q h g t e =
-    let s : TextIn m (bytesAt (part m start roomSize) p) q = moved-on m start h p (in-room m room start h g p (t .within)) q e in
-    let k : bytesAt (part m start roomSize) p ≡ deviceOf (part m start roomSize) .id = subst (λ (r : List ℕ). bytesAt r p ≡ deviceOf r .id) g (t .says) in
+    let s : TextIn m (bytesAt (span m start roomSize) p) q = moved-on m start h p (in-room m room start h g p (t .within)) q e in
+    let k : bytesAt (span m start roomSize) p ≡ deviceOf (span m start roomSize) .id = subst (λ (r : List ℕ). bytesAt r p ≡ deviceOf r .id) g (t .says) in
     record { says = ap (λ (b : List ℕ). gives (anId b)) (s .says ∙ k); places = s .within }
 
 pub no-text : (m room : List ℕ) (x : Text) → x ≡ text.Nothing → Shown (saysRelative m relative.Nothing) (gives (aText (textIn room x))) Unit
 unfolding saysRelative textIn
 no-text m room x e = record { says = ap (λ (y : Text). gives (aText (textIn room y))) (sym e); places = tt }
 
-pub a-text : (m : List ℕ) (start : ℕ) (x : Text) (p q : Place) → start + roomSize ≤ length m → Inside roomSize x → x ≡ text.At p → q ≡ shifted start p → Shown (saysRelative m (relative.At q)) (gives (aText (textIn (part m start roomSize) x))) (Within (length m) q)
+pub a-text : (m : List ℕ) (start : ℕ) (x : Text) (p q : Place) → start + roomSize ≤ length m → Inside roomSize x → x ≡ text.At p → q ≡ shifted start p → Shown (saysRelative m (relative.At q)) (gives (aText (textIn (span m start roomSize) x))) (Within (length m) q)
 unfolding saysRelative textIn
 a-text m start x p q h i e k =
-    let s : TextIn m (bytesAt (part m start roomSize) p) q = moved-on m start h p (inside-at roomSize x p i e) q k in
-    record { says = ap (λ (b : List ℕ). gives (aText (some b))) (s .says) ∙ ap (λ (y : Text). gives (aText (textIn (part m start roomSize) y))) (sym e); places = s .within }
+    let s : TextIn m (bytesAt (span m start roomSize) p) q = moved-on m start h p (inside-at roomSize x p i e) q k in
+    record { says = ap (λ (b : List ℕ). gives (aText (some b))) (s .says) ∙ ap (λ (y : Text). gives (aText (textIn (span m start roomSize) y))) (sym e); places = s .within }
 
 pub text-says : (room room′ : List ℕ) (x : Text) (v : Option (List ℕ)) (a : Answer Value) → room ≡ room′ → textIn room x ≡ v → a ≡ gives (aText (textIn room′ x)) → a ≡ gives (aText v)
 text-says room room′ x v a g e h = h ∙ (ap (λ (r : List ℕ). gives (aText (textIn r x))) (sym g) ∙ ap (λ (o : Option (List ℕ)). gives (aText o)) e)
@@ -63,19 +63,19 @@ text-says room room′ x v a g e h = h ∙ (ap (λ (r : List ℕ). gives (aText 
 abbrev propertiesIn : List ℕ → List table.Property
 propertiesIn room = propertiesOf (deviceOf room .description)
 
-module _ (m room : List ℕ) (start n : ℕ) (h : start + roomSize ≤ length m) (g : room ≡ part m start roomSize) (few : n ≡ length (propertiesIn room)) where
-  count-is : n ≡ length (propertiesIn (part m start roomSize))
+module _ (m room : List ℕ) (start n : ℕ) (h : start + roomSize ≤ length m) (g : room ≡ span m start roomSize) (few : n ≡ length (propertiesIn room)) where
+  count-is : n ≡ length (propertiesIn (span m start roomSize))
   count-is = few ∙ ap (λ (r : List ℕ). length (propertiesIn r)) g
 
-  pub no-property : (i : ℕ) → n ≤ i → Shown (saysProperty m (property.Refused 3)) (andThen (at i (propertiesIn (part m start roomSize))) (λ p. gives (aProperty (p .declared)))) Unit
+  pub no-property : (i : ℕ) → n ≤ i → Shown (saysProperty m (property.Refused 3)) (andThen (at i (propertiesIn (span m start roomSize))) (λ p. gives (aProperty (p .declared)))) Unit
   unfolding saysProperty
-  no-property i k = record { says = not-there (at i (propertiesIn (part m start roomSize))) 3 (λ p. gives (aProperty (p .declared))) (at-none i (propertiesIn (part m start roomSize)) (omega (arith, count-is))); places = tt }
+  no-property i k = record { says = not-there (at i (propertiesIn (span m start roomSize))) 3 (λ p. gives (aProperty (p .declared))) (at-none i (propertiesIn (span m start roomSize)) (omega (arith, count-is))); places = tt }
 
   pub a-property : (i : ℕ) (p : shown.Property) (node own format : Place) → i < n → PropertyIn room (recordOf room (recordAt i)) p → node ≡ shifted start (p .node) → own ≡ shifted start (p .id) → format ≡ shifted start (p .format)
-      → Shown (saysProperty m (property.Is node own (p .datatype) format (p .settable) (p .retained))) (andThen (at i (propertiesIn (part m start roomSize))) (λ p. gives (aProperty (p .declared)))) (Within (length m) node × Within (length m) own × Within (length m) format)
+      → Shown (saysProperty m (property.Is node own (p .datatype) format (p .settable) (p .retained))) (andThen (at i (propertiesIn (span m start roomSize))) (λ p. gives (aProperty (p .declared)))) (Within (length m) node × Within (length m) own × Within (length m) format)
   unfolding saysProperty propertyIn declaredIn
   a-property i p node own format k s e f d =
-      let r : List ℕ = part m start roomSize in
+      let r : List ℕ = span m start roomSize in
       let t : PropertyIn r (recordOf r (recordAt i)) p = subst (λ (r′ : List ℕ). PropertyIn r′ (recordOf r′ (recordAt i)) p) g s in
       let a : TextIn m (bytesAt r (p .node)) node = moved-on m start h (p .node) (in-room m room start h g (p .node) (s .within .node)) node e in
       let b : TextIn m (bytesAt r (p .id)) own = moved-on m start h (p .id) (in-room m room start h g (p .id) (s .within .id)) own f in
@@ -95,20 +95,20 @@ module _ (m room : List ℕ) (start n : ℕ) (h : start + roomSize ≤ length m)
 
   -- a lane of the property that stands at the first place of its name
   module _ (node own : List ℕ) (kind : LaneKind) (i : ℕ) (first : i ≡ firstAt (isNamed node own) (propertiesIn room)) where
-    first-is : i ≡ firstAt (isNamed node own) (propertiesIn (part m start roomSize))
+    first-is : i ≡ firstAt (isNamed node own) (propertiesIn (span m start roomSize))
     first-is = first ∙ ap (λ (r : List ℕ). firstAt (isNamed node own) (propertiesIn r)) g
 
-    pub no-lane : n ≤ i → Shown (saysHeld m (held.Refused 16)) (andThen (findProperty node own (propertiesIn (part m start roomSize))) (λ q. gives (aLane (laneOf kind q)))) Unit
+    pub no-lane : n ≤ i → Shown (saysHeld m (held.Refused 16)) (andThen (findProperty node own (propertiesIn (span m start roomSize))) (λ q. gives (aLane (laneOf kind q)))) Unit
     unfolding saysHeld
-    no-lane k = record { says = not-there (findProperty node own (propertiesIn (part m start roomSize))) 16 (λ q. gives (aLane (laneOf kind q))) (property-none node own (propertiesIn (part m start roomSize)) (omega (arith, first-is, count-is, first-within (isNamed node own) (propertiesIn (part m start roomSize))))); places = tt }
+    no-lane k = record { says = not-there (findProperty node own (propertiesIn (span m start roomSize))) 16 (λ q. gives (aLane (laneOf kind q))) (property-none node own (propertiesIn (span m start roomSize)) (omega (arith, first-is, count-is, first-within (isNamed node own) (propertiesIn (span m start roomSize))))); places = tt }
 
     module _ (p : shown.Property) (lane : Lane) (k : i < n) (s : PropertyIn room (recordOf room (recordAt i)) p) (c : lane ≡ chosen kind p) where
       pub payload-place : Within roomSize (lane .payload)
       payload-place = in-room m room start h g (lane .payload) (subst (λ (v : Lane). Within (length room) (v .payload)) (sym c) (s .within .lanes kind))
 
-      lane-says : (a : Answer Value) → a ≡ gives (aLane (heldIn (part m start roomSize) lane)) → a ≡ andThen (findProperty node own (propertiesIn (part m start roomSize))) (λ q. gives (aLane (laneOf kind q)))
+      lane-says : (a : Answer Value) → a ≡ gives (aLane (heldIn (span m start roomSize) lane)) → a ≡ andThen (findProperty node own (propertiesIn (span m start roomSize))) (λ q. gives (aLane (laneOf kind q)))
       lane-says a e =
-          let r : List ℕ = part m start roomSize in
+          let r : List ℕ = span m start roomSize in
           let z : table.Property = recordOf r (recordAt i) in
           let t : PropertyIn r z p = subst (λ (r′ : List ℕ). PropertyIn r′ (recordOf r′ (recordAt i)) p) g s in
           let found : findProperty node own (propertiesIn r) ≡ gives z =
@@ -117,14 +117,14 @@ module _ (m room : List ℕ) (start n : ℕ) (h : start + roomSize ≤ length m)
           let holds : heldIn r lane ≡ laneOf kind z = ap (heldIn r) c ∙ (lane-holds r kind p ∙ ap (laneOf kind) (t .says)) in
           there (findProperty node own (propertiesIn r)) z (λ q. gives (aLane (laneOf kind q))) a found (e ∙ ap (λ (o : Option table.Held). gives (aLane o)) holds)
 
-      pub empty-lane : lane .filled ≡ false → Shown (saysHeld m held.Empty) (andThen (findProperty node own (propertiesIn (part m start roomSize))) (λ q. gives (aLane (laneOf kind q)))) Unit
+      pub empty-lane : lane .filled ≡ false → Shown (saysHeld m held.Empty) (andThen (findProperty node own (propertiesIn (span m start roomSize))) (λ q. gives (aLane (laneOf kind q)))) Unit
       unfolding saysHeld heldIn
       empty-lane e = record { says = lane-says (gives (aLane none)) (rw (e, heldIn)); places = tt }
 
-      pub a-lane : (q : Place) → lane .filled ≡ true → q ≡ shifted start (lane .payload) → Shown (saysHeld m (held.Holds (lane .time) q)) (andThen (findProperty node own (propertiesIn (part m start roomSize))) (λ q. gives (aLane (laneOf kind q)))) (Within (length m) q)
+      pub a-lane : (q : Place) → lane .filled ≡ true → q ≡ shifted start (lane .payload) → Shown (saysHeld m (held.Holds (lane .time) q)) (andThen (findProperty node own (propertiesIn (span m start roomSize))) (λ q. gives (aLane (laneOf kind q)))) (Within (length m) q)
       unfolding saysHeld heldIn
       a-lane q e f =
-          let b : TextIn m (bytesAt (part m start roomSize) (lane .payload)) q = moved-on m start h (lane .payload) payload-place q f in
+          let b : TextIn m (bytesAt (span m start roomSize) (lane .payload)) q = moved-on m start h (lane .payload) payload-place q f in
           record {
             says = lane-says (gives (aLane (some (record { time = lane .time; payload = bytesAt m q })))) (rw (e, heldIn) (ap (λ (x : List ℕ). gives (aLane (some (record { time = lane .time; payload = x })))) (b .says)));
             places = b .within;

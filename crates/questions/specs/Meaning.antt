@@ -2,9 +2,10 @@
 use Prim.Native.Nat.{ℕ, _^_}
 use mathlib.Core.List.{List}
 use mathlib.Core.Option.{none, some}
+use lib.ListN.{length}
 use Rattle.answer.specs.Answer.{Answer, refused, gives}
 use Rattle.numbers.specs.Whole.{stands}
-use Rattle.topic.specs.Meaning.{bytesAt, Within}
+use Rattle.text.specs.Places.{bytesAt, Within}
 use Rattle.book.specs.Book.{question}
 use Rattle.rules.specs.Questions.{Question, Value, aNumber, anId, twoStates, aText, aVersion, aProperty, aLane, aTime}
 use Rattle.lookup.specs.Contract.{Did}
@@ -85,3 +86,15 @@ HeldInside n (held.Holds t p) = Within n p
 pub record Asked (q : Question) (m : List ℕ) (a : Answer Value) (Inside : Type 0) : Type 0 where
   pub did : Did (question q) m m a
   pub places : Inside
+
+abbrev pub AskedId : Question → List ℕ → Id → Type 0
+AskedId q m r = Asked q m (saysId m r) (IdInside (length m) r)
+
+abbrev pub AskedRelative : Question → List ℕ → Relative → Type 0
+AskedRelative q m r = Asked q m (saysRelative m r) (RelativeInside (length m) r)
+
+abbrev pub AskedProperty : Question → List ℕ → Property → Type 0
+AskedProperty q m r = Asked q m (saysProperty m r) (PropertyInside (length m) r)
+
+abbrev pub AskedHeld : Question → List ℕ → Held → Type 0
+AskedHeld q m r = Asked q m (saysHeld m r) (HeldInside (length m) r)

@@ -2,26 +2,25 @@
 ghost use mathlib.Core.Path.{_≡_};
 ghost use Prim.Native.Nat.{_+_, _^_, _≤_, _<_};
 ghost use lib.ListN.{length};
-ghost use Rattle.answer.specs.Answer.{gives, andThen};
-ghost use Rattle.memory.specs.Bytes.{part};
+ghost use Rattle.answer.specs.Answer.{gives};
 ghost use Rattle.memory.specs.Layout.{roomSize};
-ghost use Rattle.rules.specs.Table.{propertiesOf, versionOf, laneOf};
-ghost use Rattle.rules.specs.Find.{find, findProperty};
-ghost use Rattle.rules.specs.Questions.{askCount, askNth, askStates, askRoot, askParent, askVersion, askFilled, askProperty, askLane, askLast, anId, aText, aVersion, aProperty, aLane, at, isLost, foundLost, effective};
+ghost use Rattle.rules.specs.Table.{versionOf};
+ghost use Rattle.rules.specs.Find.{find};
+ghost use Rattle.rules.specs.Questions.{askCount, askNth, askStates, askRoot, askParent, askVersion, askFilled, askProperty, askLane, askLast, aVersion, isLost, foundLost, effective};
 ghost use Rattle.device.specs.Decode.{deviceOf};
 ghost use Rattle.device.specs.Meaning.{textIn, Inside, shifted};
-ghost use Rattle.lookup.specs.Meaning.{Sound, means};
+ghost use Rattle.lookup.specs.Meaning.{Sound, devicesIn};
 ghost use Rattle.book.specs.Book.{question};
 ghost use Rattle.lookup.specs.Contract.{Did};
-ghost use Rattle.questions.specs.Meaning.{saysNumber, saysId, saysStates, saysRelative, saysVersion, saysProperty, saysHeld, saysTime, IdInside, RelativeInside, PropertyInside, HeldInside, Asked};
-ghost use Rattle.questions.specs.Parts.{Seeks, Shown, statesOf};
+ghost use Rattle.questions.specs.Meaning.{saysNumber, saysStates, saysVersion, saysTime, AskedId, AskedRelative, AskedProperty, AskedHeld};
+ghost use Rattle.questions.specs.Parts.{roomFrom, deviceFrom, Seeks, statesOf, ShowsId, ShowsRelative, ShowsProperty, ShowsLane};
 use device::Text;
 use lookup::LastTime;
 use memory::ROOM;
 use payload::Datatype;
 use rules::DeviceState;
 use rules::LaneKind;
-use topic::Place;
+use text::Place;
 
 pub enum Number {
     Refused(u8),
@@ -122,7 +121,7 @@ fn moved(p: Place, start: usize) -> Place
 // The room that starts at a place.
 fn room_at(mem: &[u8], start: usize) -> &[u8]
     requires { ⌜ start + roomSize ≤ length (now mem) ⌝ }
-    ensures { λ r. ⌜ now r ≡ part (now (mem .entry)) start roomSize ⌝ }
+    ensures { λ r. ⌜ now r ≡ roomFrom (now (mem .entry)) start ⌝ }
 {
     let end = start + ROOM;
     &mem[start..end]
@@ -141,7 +140,7 @@ pub fn count(mem: &[u8]) -> Number
 
 fn id_in(mem: &[u8], start: usize) -> Id
     requires { ⌜ start + roomSize ≤ length (now mem) ⌝ }
-    ensures { λ r. ⌜ Shown (saysId (now (mem .entry)) r) (gives (anId (deviceOf (part (now (mem .entry)) start roomSize) .id))) (IdInside (length (now (mem .entry))) r) ⌝ }
+    ensures { λ r. ⌜ ShowsId (now (mem .entry)) start r ⌝ }
 {
     let p = device::id(room_at(mem, start));
     let place = moved(p, start);
@@ -150,7 +149,7 @@ fn id_in(mem: &[u8], start: usize) -> Id
 
 // The ID of the i-th device, from 0, by ascending ID bytes.
 pub fn nth(mem: &[u8], i: usize) -> Id
-    ensures { λ r. ⌜ Asked (askNth i) (now (mem .entry)) (saysId (now (mem .entry)) r) (IdInside (length (now (mem .entry))) r) ⌝ }
+    ensures { λ r. ⌜ AskedId (askNth i) (now (mem .entry)) r ⌝ }
 {
     if !lookup::sound(mem) {
         return Id::Refused(6);
@@ -184,7 +183,7 @@ fn is_lost_in(room: &[u8]) -> bool
 // Whether a device of this ID is there and its own state is `lost`.
 fn is_lost(mem: &[u8], id: &[u8]) -> bool
     requires { ⌜ Sound (now mem) ⌝ }
-    ensures { λ r. ⌜ r ≡ foundLost (find (now (id .entry)) (means (now (mem .entry)) .now .devices)) ⌝ }
+    ensures { λ r. ⌜ r ≡ foundLost (find (now (id .entry)) (devicesIn (now (mem .entry)))) ⌝ }
 {
     match locate(mem, id) {
         Sought::Refused(_) => false,
@@ -195,7 +194,7 @@ fn is_lost(mem: &[u8], id: &[u8]) -> bool
 // The effective state of the device in a room: `lost` if its root is there and is lost.
 fn effective_in(mem: &[u8], room: &[u8]) -> DeviceState
     requires { ⌜ Sound (now mem) ⌝ }
-    ensures { λ r. ⌜ r ≡ effective (means (now (mem .entry)) .now .devices) (deviceOf (now (room .entry))) ⌝ }
+    ensures { λ r. ⌜ r ≡ effective (devicesIn (now (mem .entry))) (deviceOf (now (room .entry))) ⌝ }
 {
     let own = device::state(room);
     match device::root(room) {
@@ -213,7 +212,7 @@ fn effective_in(mem: &[u8], room: &[u8]) -> DeviceState
 
 fn states_in(mem: &[u8], start: usize) -> States
     requires { ⌜ Sound (now mem) × (start + roomSize ≤ length (now mem)) ⌝ }
-    ensures { λ r. ⌜ saysStates r ≡ statesOf (means (now (mem .entry)) .now .devices) (deviceOf (part (now (mem .entry)) start roomSize)) ⌝ }
+    ensures { λ r. ⌜ saysStates r ≡ statesOf (devicesIn (now (mem .entry))) (deviceFrom (now (mem .entry)) start) ⌝ }
 {
     let room = room_at(mem, start);
     let own = device::state(room);
@@ -238,7 +237,7 @@ pub fn states_of(mem: &[u8], id: &[u8]) -> States
 
 fn relative_in(mem: &[u8], start: usize, t: Text) -> Relative
     requires { ⌜ (start + roomSize ≤ length (now mem)) × Inside roomSize t ⌝ }
-    ensures { λ r. ⌜ Shown (saysRelative (now (mem .entry)) r) (gives (aText (textIn (part (now (mem .entry)) start roomSize) t))) (RelativeInside (length (now (mem .entry))) r) ⌝ }
+    ensures { λ r. ⌜ ShowsRelative (now (mem .entry)) (textIn (roomFrom (now (mem .entry)) start) t) r ⌝ }
 {
     match t {
         Text::Nothing => Relative::Nothing,
@@ -251,7 +250,7 @@ fn relative_in(mem: &[u8], start: usize, t: Text) -> Relative
 
 // The root of a device, as its description names it.
 pub fn root_of(mem: &[u8], id: &[u8]) -> Relative
-    ensures { λ r. ⌜ Asked (askRoot (now (id .entry))) (now (mem .entry)) (saysRelative (now (mem .entry)) r) (RelativeInside (length (now (mem .entry))) r) ⌝ }
+    ensures { λ r. ⌜ AskedRelative (askRoot (now (id .entry))) (now (mem .entry)) r ⌝ }
 {
     match seek(mem, id) {
         Sought::Refused(n) => Relative::Refused(n),
@@ -261,7 +260,7 @@ pub fn root_of(mem: &[u8], id: &[u8]) -> Relative
 
 // The parent of a device, as its description names it.
 pub fn parent_of(mem: &[u8], id: &[u8]) -> Relative
-    ensures { λ r. ⌜ Asked (askParent (now (id .entry))) (now (mem .entry)) (saysRelative (now (mem .entry)) r) (RelativeInside (length (now (mem .entry))) r) ⌝ }
+    ensures { λ r. ⌜ AskedRelative (askParent (now (id .entry))) (now (mem .entry)) r ⌝ }
 {
     match seek(mem, id) {
         Sought::Refused(n) => Relative::Refused(n),
@@ -304,7 +303,7 @@ pub fn filled_of(mem: &[u8], id: &[u8]) -> Number
 
 fn property_in(mem: &[u8], start: usize, i: usize) -> Property
     requires { ⌜ start + roomSize ≤ length (now mem) ⌝ }
-    ensures { λ r. ⌜ Shown (saysProperty (now (mem .entry)) r) (andThen (at i (propertiesOf (deviceOf (part (now (mem .entry)) start roomSize) .description))) (λ p. gives (aProperty (p .declared)))) (PropertyInside (length (now (mem .entry))) r) ⌝ }
+    ensures { λ r. ⌜ ShowsProperty (now (mem .entry)) start i r ⌝ }
 {
     let room = room_at(mem, start);
     let n = device::properties(room);
@@ -328,7 +327,7 @@ fn property_in(mem: &[u8], start: usize, i: usize) -> Property
 
 // The i-th property of a device, from 0, by node ID, then property ID.
 pub fn property_of(mem: &[u8], id: &[u8], i: usize) -> Property
-    ensures { λ r. ⌜ Asked (askProperty (now (id .entry)) i) (now (mem .entry)) (saysProperty (now (mem .entry)) r) (PropertyInside (length (now (mem .entry))) r) ⌝ }
+    ensures { λ r. ⌜ AskedProperty (askProperty (now (id .entry)) i) (now (mem .entry)) r ⌝ }
 {
     match seek(mem, id) {
         Sought::Refused(n) => Property::Refused(n),
@@ -338,7 +337,7 @@ pub fn property_of(mem: &[u8], id: &[u8], i: usize) -> Property
 
 fn lane_in(mem: &[u8], start: usize, node: &[u8], property: &[u8], kind: LaneKind) -> Held
     requires { ⌜ start + roomSize ≤ length (now mem) ⌝ }
-    ensures { λ r. ⌜ Shown (saysHeld (now (mem .entry)) r) (andThen (findProperty (now (node .entry)) (now (property .entry)) (propertiesOf (deviceOf (part (now (mem .entry)) start roomSize) .description))) (λ q. gives (aLane (laneOf kind q)))) (HeldInside (length (now (mem .entry))) r) ⌝ }
+    ensures { λ r. ⌜ ShowsLane (now (mem .entry)) start (now (node .entry)) (now (property .entry)) kind r ⌝ }
 {
     let room = room_at(mem, start);
     let i = device::find_property(room, node, property);
@@ -358,7 +357,7 @@ fn lane_in(mem: &[u8], start: usize, node: &[u8], property: &[u8], kind: LaneKin
 
 // What a lane of a property holds.
 pub fn lane_of(mem: &[u8], id: &[u8], node: &[u8], property: &[u8], kind: LaneKind) -> Held
-    ensures { λ r. ⌜ Asked (askLane (now (id .entry)) (now (node .entry)) (now (property .entry)) kind) (now (mem .entry)) (saysHeld (now (mem .entry)) r) (HeldInside (length (now (mem .entry))) r) ⌝ }
+    ensures { λ r. ⌜ AskedHeld (askLane (now (id .entry)) (now (node .entry)) (now (property .entry)) kind) (now (mem .entry)) r ⌝ }
 {
     match seek(mem, id) {
         Sought::Refused(n) => Held::Refused(n),
@@ -366,7 +365,7 @@ pub fn lane_of(mem: &[u8], id: &[u8], node: &[u8], property: &[u8], kind: LaneKi
     }
 }
 
-// The time of the last message taken.
+// The time of the last message that stands.
 pub fn last_time(mem: &[u8]) -> Time
     ensures { λ r. ⌜ Did (question askLast) (now (mem .entry)) (now (mem .entry)) (saysTime r) ⌝ }
 {

@@ -1,4 +1,5 @@
 pub mod Cutting
 pub mod Reading
+pub mod Words
 pub mod Payloads
 pub mod Theorems

@@ -13,9 +13,9 @@ use Rattle.numbers.specs.Integer.{integer}
 use Rattle.numbers.specs.Step.{inRange}
 use Rattle.numbers.specs.Whole.{aboveZero, stands}
 use Rattle.numbers.specs.Decimal.{Scientific, decimal, ofWhole}
-use Rattle.numbers.specs.Ratio.{decimalHeld}
-use Rattle.ranges.specs.Fields.{Fields, two, three, other}
-use Rattle.ranges.specs.Ranges.{Range, bound, ordered, within, keep, stepped, rangeOf, positive, leDecimal, positiveDecimal, integerRange, floatRange, stepOf, isInteger, isFloat, upTo}
+use Rattle.numbers.specs.Ratio.{decimalInBounds}
+use Rattle.ranges.specs.Ranges.{Range, positive, leDecimal, positiveDecimal, integerRange, floatRange, stepOf, isInteger, isFloat, isFloatUpTo}
+use Rattle.ranges.specs.Parts.{Fields, two, three, other, bound, within, keep, withStep, fromFields, ordered}
 use Rattle.ranges.specs.Answers.{stepRead}
 
 module _ {N : Type 0} (read : List ℕ → Option N) where
@@ -59,19 +59,19 @@ step-some (suc n) h = (n, refl)
 
 -- a range from its fields
 module _ {N : Type 0} (read : List ℕ → Option N) (le : N → N → Bool) (above : N → Bool) where
-  pub range-two : {f : Fields} {min max : List ℕ} → two min max ≡ f → within le (bound read min) (bound read max) none ≡ rangeOf read le above f
-  unfolding rangeOf
+  pub range-two : {f : Fields} {min max : List ℕ} → two min max ≡ f → within le (bound read min) (bound read max) none ≡ fromFields read le above f
+  unfolding fromFields
   range-two e = rw (← e)
 
-  pub range-other : {f : Fields} → other ≡ f → none ≡ rangeOf read le above f
-  unfolding rangeOf
+  pub range-other : {f : Fields} → other ≡ f → none ≡ fromFields read le above f
+  unfolding fromFields
   range-other e = rw (← e)
 
-  pub range-stepped : {f : Fields} {min max step : List ℕ} {o : Option N} → three min max step ≡ f → o ≡ keep above (read step) → stepped le (bound read min) (bound read max) o ≡ rangeOf read le above f
-  unfolding rangeOf
+  pub range-stepped : {f : Fields} {min max step : List ℕ} {o : Option N} → three min max step ≡ f → o ≡ keep above (read step) → withStep le (bound read min) (bound read max) o ≡ fromFields read le above f
+  unfolding fromFields
   range-stepped e h = rw (← e, ← h)
 
-pub step-goes : (le : ℤ → ℤ → Bool) (min max : Option (Option ℤ)) (n : ℕ) → (n ≡ 0 → ⊥) → within le min max (stepRead n) ≡ stepped le min max (stepRead n)
+pub step-goes : (le : ℤ → ℤ → Bool) (min max : Option (Option ℤ)) (n : ℕ) → (n ≡ 0 → ⊥) → within le min max (stepRead n) ≡ withStep le min max (stepRead n)
 step-goes le min max zero h = absurd (h refl)
 step-goes le min max (suc n) h = refl
 
@@ -119,15 +119,15 @@ module _ (format s : List ℕ) where
   unfolding isFloat
   no-float e f = rw (← e, ← f)
 
-  pub in-floats : {r : Range Scientific} {v : Scientific} {t : Bool} → some r ≡ floatRange format → some v ≡ decimal s → t ≡ decimalHeld (r .min) (r .max) v → t ≡ isFloat format s
+  pub in-floats : {r : Range Scientific} {v : Scientific} {t : Bool} → some r ≡ floatRange format → some v ≡ decimal s → t ≡ decimalInBounds (r .min) (r .max) v → t ≡ isFloat format s
   unfolding isFloat
   in-floats e f h = rw (← e, ← f) h
 
 module _ (most : ℕ) (s : List ℕ) where
-  pub upTo-none : none ≡ decimal s → false ≡ upTo most s
-  unfolding upTo
-  upTo-none e = rw (← e, upTo)
+  pub upTo-none : none ≡ decimal s → false ≡ isFloatUpTo most s
+  unfolding isFloatUpTo
+  upTo-none e = rw (← e, isFloatUpTo)
 
-  pub upTo-is : {v : Scientific} (low high : Scientific) {t : Bool} → some v ≡ decimal s → t ≡ decimalHeld (some low) (some high) v → low ≡ ofWhole 0 → high ≡ ofWhole most → t ≡ upTo most s
-  unfolding upTo
-  upTo-is {v} low high e h p q = rw (← e, upTo) (h ∙ ap (λ (x : Scientific). decimalHeld (some x) (some high) v) p ∙ ap (λ (x : Scientific). decimalHeld (some (ofWhole 0)) (some x) v) q)
+  pub upTo-is : {v : Scientific} (low high : Scientific) {t : Bool} → some v ≡ decimal s → t ≡ decimalInBounds (some low) (some high) v → low ≡ ofWhole 0 → high ≡ ofWhole most → t ≡ isFloatUpTo most s
+  unfolding isFloatUpTo
+  upTo-is {v} low high e h p q = rw (← e, isFloatUpTo) (h ∙ ap (λ (x : Scientific). decimalInBounds (some x) (some high) v) p ∙ ap (λ (x : Scientific). decimalInBounds (some (ofWhole 0)) (some x) v) q)

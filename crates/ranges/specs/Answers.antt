@@ -17,9 +17,9 @@ stepRead zero = none
 stepRead (suc n) = some (pos (suc n))
 
 abbrev pub integerRangeOf : IntegerRange → Option (Range ℤ)
-integerRangeOf (integers.Within min max step) = some (record { min = limit (2 ^ 63) min; max = limit (2 ^ 63) max; step = stepRead step })
+integerRangeOf (integers.Is min max step) = some (record { min = limit (2 ^ 63) min; max = limit (2 ^ 63) max; step = stepRead step })
 integerRangeOf integers.Bad = none
 
 abbrev pub floatRangeOf : FloatRange → Option (Range Scientific)
-floatRangeOf (floats.Within min max step) = some (record { min = decimalLimit min; max = decimalLimit max; step = decimalLimit step })
+floatRangeOf (floats.Is min max step) = some (record { min = decimalLimit min; max = decimalLimit max; step = decimalLimit step })
 floatRangeOf floats.Bad = none

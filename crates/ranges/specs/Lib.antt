@@ -1,4 +1,4 @@
-pub mod Fields
 pub mod Ranges
+pub mod Promises
 pub mod Answers
 pub mod Parts

@@ -1,11 +1,12 @@
--- What the answers of private functions stand for.
+-- What the private functions do. No promise of the crate rests on believing this file: proofs/ show that it comes to the rules of Ranges.
 use Prim.Native.Nat.{ℕ, _+_, _^_, _≤_, _<_}
 use mathlib.Core.Path.{_≡_}
-use mathlib.Core.List.{List}
-use mathlib.Core.Option.{Option, none, some}
+use mathlib.Core.List.{List, [], _∷_}
+use mathlib.Core.Bool.{Bool, cond}
+use mathlib.Core.Option.{Option, none, some, Option·map}
 use lib.IntN.{ℤ}
 use lib.ListN.{length}
-use Rattle.text.specs.Bytes.{part}
+use Rattle.text.specs.Bytes.{slice}
 use Rattle.numbers.specs.Step.{limit}
 use Rattle.numbers.specs.Decimal.{Scientific}
 use Rattle.numbers.specs.Ratio.{decimalLimit}
@@ -15,12 +16,28 @@ use Rattle.ranges.specs.declared.IntegerLimit.{IntegerLimit}
 use Rattle.ranges.specs.declared.IntegerLimit.the-variants as integerLimit
 use Rattle.ranges.specs.declared.FloatLimit.{FloatLimit}
 use Rattle.ranges.specs.declared.FloatLimit.the-variants as floatLimit
-use Rattle.ranges.specs.Fields.{Fields, two, three, other}
+use Rattle.ranges.specs.Ranges.{Range, fieldsOf, ifThere}
+
+-- the fields of `[min]:[max][:step]`
+pub data Fields : Type 0 where
+  two : List ℕ → List ℕ → Fields
+  three : List ℕ → List ℕ → List ℕ → Fields
+  other : Fields
+
+unfoldable pub counted : List (List ℕ) → Fields
+counted [] = other
+counted (min ∷ []) = other
+counted (min ∷ max ∷ []) = two min max
+counted (min ∷ max ∷ step ∷ []) = three min max step
+counted (min ∷ max ∷ step ∷ more ∷ fs) = other
+
+unfoldable pub fields : List ℕ → Fields
+fields s = counted (fieldsOf s)
 
 -- the strings between the places
 abbrev pub shown : List ℕ → Cuts → Fields
-shown s (Two a b) = two (part s 0 a) (part s (a + 1) b)
-shown s (Three a b) = three (part s 0 a) (part s (a + 1) b) (part s (b + 1) (length s))
+shown s (Two a b) = two (slice s 0 a) (slice s (a + 1) b)
+shown s (Three a b) = three (slice s 0 a) (slice s (a + 1) b) (slice s (b + 1) (length s))
 shown s Other = other
 
 abbrev pub Lies : List ℕ → Cuts → Type 0
@@ -39,3 +56,33 @@ integerLimitOf integerLimit.Bad = none
 abbrev pub floatLimitOf : FloatLimit → Option (Option Scientific)
 floatLimitOf (floatLimit.Limit b) = some (decimalLimit b)
 floatLimitOf floatLimit.Bad = none
+
+-- a bound, which may be left out
+unfoldable pub bound : {N : Type 0} → (List ℕ → Option N) → List ℕ → Option (Option N)
+bound read [] = some none
+bound read (b ∷ s) = Option·map some (read (b ∷ s))
+
+-- min not above max, where both are there
+abbrev pub ordered : {N : Type 0} → (N → N → Bool) → Option N → Option N → Bool
+ordered le min max = ifThere min (λ a. ifThere max (λ b. le a b))
+
+abbrev pub within : {N : Type 0} → (N → N → Bool) → Option (Option N) → Option (Option N) → Option N → Option (Range N)
+within le none max step = none
+within le (some min) none step = none
+within le (some min) (some max) step = cond (ordered le min max) (some (record { min = min; max = max; step = step })) none
+
+-- a step, which is above 0
+abbrev pub keep : {N : Type 0} → (N → Bool) → Option N → Option N
+keep above none = none
+keep above (some n) = cond (above n) (some n) none
+
+abbrev pub withStep : {N : Type 0} → (N → N → Bool) → Option (Option N) → Option (Option N) → Option N → Option (Range N)
+withStep le min max none = none
+withStep le min max (some step) = within le min max (some step)
+
+-- the range that the fields write
+unfoldable pub fromFields : {N : Type 0} → (List ℕ → Option N) → (N → N → Bool) → (N → Bool) → Fields → Option (Range N)
+unfolding bound
+fromFields read le above (two min max) = within le (bound read min) (bound read max) none
+fromFields read le above (three min max step) = withStep le (bound read min) (bound read max) (keep above (read step))
+fromFields read le above other = none

@@ -1,53 +1,61 @@
 -- Paper 01, "Payloads of properties": formats of integers and floats, and the payloads that they let pass.
 use Prim.Native.Nat.{ℕ}
 use mathlib.Core.List.{List, [], _∷_}
-use mathlib.Core.Bool.{Bool, true, false, not, cond}
-use mathlib.Core.Option.{Option, none, some, Option·map}
+use mathlib.Core.Bool.{Bool, true, false, not, _&&_, _||_, cond}
+use mathlib.Core.Option.{Option, none, some}
+use lib.ListN.{getD}
 use lib.IntN.{ℤ, pos}
 use lib.Signed.{leZ}
+use Rattle.abnf.specs.Abnf.{Abnf, _·_, x, opt}
+use Rattle.abnf.specs.Accepts.{isEmpty, accepts}
+use Rattle.text.specs.Split.{split}
+use Rattle.numbers.specs.Grammar.{integer-text, float-text}
 use Rattle.numbers.specs.Whole.{aboveZero}
 use Rattle.numbers.specs.Integer.{integer}
 use Rattle.numbers.specs.Step.{inRange}
 use Rattle.numbers.specs.Decimal.{Scientific, decimal, ofWhole}
-use Rattle.numbers.specs.Ratio.{ratio, leQ, decimalHeld}
-use Rattle.ranges.specs.Fields.{Fields, two, three, other, fields}
+use Rattle.numbers.specs.Ratio.{ratio, leQ, decimalInBounds}
 
+-- a number that is left out is none
 pub record Range (N : Type 0) : Type 0 where
   pub min : Option N
   pub max : Option N
   pub step : Option N
 
--- "integer and float `[min]:[max][:step]`, each number of the property's own type": a bound may be left out
-unfoldable pub bound : {N : Type 0} → (List ℕ → Option N) → List ℕ → Option (Option N)
-bound read [] = some none
-bound read (b ∷ s) = Option·map some (read (b ∷ s))
+-- "integer and float `[min]:[max][:step]`", over the texts of the type's numbers
+abbrev pub range-text : Abnf ⊥ → Abnf ⊥
+range-text number = opt number · x 0x3A · opt number · opt (x 0x3A · number)
 
--- "min not above max"
-abbrev pub ordered : {N : Type 0} → (N → N → Bool) → Option N → Option N → Bool
-ordered le none max = true
-ordered le (some min) none = true
-ordered le (some min) (some max) = le min max
+-- what stands between the colons, and the numbers as they are read
+abbrev pub fieldsOf : List ℕ → List (List ℕ)
+fieldsOf s = split 0x3A s
 
-abbrev pub within : {N : Type 0} → (N → N → Bool) → Option (Option N) → Option (Option N) → Option N → Option (Range N)
-within le none max step = none
-within le (some min) none step = none
-within le (some min) (some max) step = cond (ordered le min max) (some (record { min = min; max = max; step = step })) none
+abbrev pub numbersOf : {N : Type 0} → (List ℕ → Option N) → List (List ℕ) → Range N
+numbersOf read fs = record { min = read (getD fs 0 []); max = read (getD fs 1 []); step = read (getD fs 2 []) }
 
--- "step above 0"
-abbrev pub keep : {N : Type 0} → (N → Bool) → Option N → Option N
-keep test none = none
-keep test (some n) = cond (test n) (some n) none
+-- "each number of the property's own type": a field is left out, or is read as one
+abbrev pub isSome : {N : Type 0} → Option N → Bool
+isSome none = false
+isSome (some n) = true
 
-abbrev pub stepped : {N : Type 0} → (N → N → Bool) → Option (Option N) → Option (Option N) → Option N → Option (Range N)
-stepped le min max none = none
-stepped le min max (some step) = within le min max (some step)
+unfoldable pub eachRead : {N : Type 0} → (List ℕ → Option N) → List (List ℕ) → Bool
+eachRead read [] = true
+eachRead read (f ∷ fs) = (isEmpty f || isSome (read f)) && eachRead read fs
 
--- with how numbers of the type are read, ordered and told to be above 0
-unfoldable pub rangeOf : {N : Type 0} → (List ℕ → Option N) → (N → N → Bool) → (N → Bool) → Fields → Option (Range N)
-unfolding bound
-rangeOf read le above (two min max) = within le (bound read min) (bound read max) none
-rangeOf read le above (three min max step) = stepped le (bound read min) (bound read max) (keep above (read step))
-rangeOf read le above other = none
+-- "min not above max, step above 0", of those that are there
+abbrev pub ifThere : {N : Type 0} → Option N → (N → Bool) → Bool
+ifThere none rule = true
+ifThere (some n) rule = rule n
+
+abbrev pub valid : {N : Type 0} → (N → N → Bool) → (N → Bool) → Range N → Bool
+valid le above r = ifThere (r .min) (λ min. ifThere (r .max) (λ max. le min max)) && ifThere (r .step) above
+
+-- the range of a format, for a type's texts of numbers and how they are read, ordered and told to be above 0
+unfoldable pub rangeOf : {N : Type 0} → Abnf ⊥ → (List ℕ → Option N) → (N → N → Bool) → (N → Bool) → List ℕ → Option (Range N)
+unfolding accepts split eachRead
+rangeOf number read le above s =
+    cond (accepts (range-text number) s && (eachRead read (fieldsOf s) && valid le above (numbersOf read (fieldsOf s))))
+    (some (numbersOf read (fieldsOf s))) none
 
 abbrev pub positive : ℤ → Bool
 positive z = leZ (pos 1) z
@@ -59,44 +67,39 @@ abbrev pub positiveDecimal : Scientific → Bool
 positiveDecimal a = not (leDecimal a (ofWhole 0))
 
 unfoldable pub integerRange : List ℕ → Option (Range ℤ)
-unfolding fields rangeOf integer
-integerRange s = rangeOf integer leZ positive (fields s)
+unfolding rangeOf integer
+integerRange s = rangeOf integer-text integer leZ positive s
 
 unfoldable pub floatRange : List ℕ → Option (Range Scientific)
-unfolding fields rangeOf decimal
-floatRange s = rangeOf decimal leDecimal positiveDecimal (fields s)
+unfolding rangeOf decimal
+floatRange s = rangeOf float-text decimal leDecimal positiveDecimal s
 
 -- "Integer with step s: ..": the rule of crate numbers, where 0 is no step
 abbrev pub stepOf : Option ℤ → ℕ
 stepOf none = 0
 stepOf (some z) = aboveZero z
 
-abbrev pub integerHeld : Option (Range ℤ) → Option ℤ → Bool
-integerHeld none v = false
-integerHeld (some r) none = false
-integerHeld (some r) (some v) = inRange (r .min) (r .max) (stepOf (r .step)) v
+abbrev pub integerInRange : Option (Range ℤ) → Option ℤ → Bool
+integerInRange none v = false
+integerInRange (some r) none = false
+integerInRange (some r) (some v) = inRange (r .min) (r .max) (stepOf (r .step)) v
 
 -- "Floats are held against min and max unrounded."
-abbrev pub floatHeld : Option (Range Scientific) → Option Scientific → Bool
-floatHeld none v = false
-floatHeld (some r) none = false
-floatHeld (some r) (some v) = decimalHeld (r .min) (r .max) v
+abbrev pub floatInRange : Option (Range Scientific) → Option Scientific → Bool
+floatInRange none v = false
+floatInRange (some r) none = false
+floatInRange (some r) (some v) = decimalInBounds (r .min) (r .max) v
 
 -- an integer or a float of a format
 unfoldable pub isInteger : List ℕ → List ℕ → Bool
 unfolding integerRange inRange
-isInteger format s = integerHeld (integerRange format) (integer s)
+isInteger format s = integerInRange (integerRange format) (integer s)
 
 unfoldable pub isFloat : List ℕ → List ℕ → Bool
-unfolding floatRange decimalHeld
-isFloat format s = floatHeld (floatRange format) (decimal s)
+unfolding floatRange decimalInBounds
+isFloat format s = floatInRange (floatRange format) (decimal s)
 
--- a float from 0 to a whole number, ends included
-unfoldable pub upTo : ℕ → List ℕ → Bool
-unfolding decimal decimalHeld
-upTo most s = elim (decimal s) [ none ↦ false | some v ↦ decimalHeld (some (ofWhole 0)) (some (ofWhole most)) v ]
-
--- a format of either kind
-abbrev pub isSome : {N : Type 0} → Option N → Bool
-isSome none = false
-isSome (some n) = true
+-- for "color: .. three of 0 to 255 .. ends included": a float from 0 to a whole number
+unfoldable pub isFloatUpTo : ℕ → List ℕ → Bool
+unfolding decimal decimalInBounds
+isFloatUpTo most s = elim (decimal s) [ none ↦ false | some v ↦ decimalInBounds (some (ofWhole 0)) (some (ofWhole most)) v ]

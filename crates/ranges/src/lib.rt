@@ -6,10 +6,9 @@ ghost use Rattle.numbers.specs.Integer.{integer};
 ghost use Rattle.numbers.specs.Decimal.{decimal};
 ghost use Rattle.numbers.specs.Ratio.{decimalLimit};
 ghost use Rattle.numbers.specs.Step.{limit};
-ghost use Rattle.ranges.specs.Fields.{fields};
-ghost use Rattle.ranges.specs.Ranges.{bound, ordered, within, keep, positive, leDecimal, positiveDecimal, integerRange, floatRange, isInteger, isFloat, upTo};
+ghost use Rattle.ranges.specs.Ranges.{positive, leDecimal, positiveDecimal, integerRange, floatRange, isInteger, isFloat, isFloatUpTo};
 ghost use Rattle.ranges.specs.Answers.{stepRead, integerRangeOf, floatRangeOf};
-ghost use Rattle.ranges.specs.Parts.{CutAt, integerLimitOf, floatLimitOf};
+ghost use Rattle.ranges.specs.Parts.{fields, CutAt, integerLimitOf, floatLimitOf, bound, ordered, within, keep};
 use numbers::compare::DecimalBound;
 use numbers::decimals::Decimal;
 use numbers::decimals::DecimalRead;
@@ -36,12 +35,12 @@ pub enum FloatLimit {
 
 // A step of 0 is none.
 pub enum IntegerRange {
-    Within { min: Bound, max: Bound, step: u64 },
+    Is { min: Bound, max: Bound, step: u64 },
     Bad,
 }
 
 pub enum FloatRange {
-    Within {
+    Is {
         min: DecimalBound,
         max: DecimalBound,
         step: DecimalBound,
@@ -127,7 +126,7 @@ fn integer_within(min: &[u8], max: &[u8], step: u64) -> IntegerRange
         return IntegerRange::Bad;
     };
     if integer_ordered(a, b) {
-        IntegerRange::Within {
+        IntegerRange::Is {
             min: a,
             max: b,
             step: step,
@@ -163,7 +162,7 @@ pub fn integer_range(s: &[u8]) -> IntegerRange
 pub fn is_integer(format: &[u8], s: &[u8]) -> bool
     ensures { λ r. ⌜ r ≡ isInteger (now (format .entry)) (now (s .entry)) ⌝ }
 {
-    let IntegerRange::Within { min, max, step } = integer_range(format) else {
+    let IntegerRange::Is { min, max, step } = integer_range(format) else {
         return false;
     };
     let IntegerRead::Value(v) = numbers::integers::read_integer(s) else {
@@ -222,7 +221,7 @@ fn float_within(min: &[u8], max: &[u8], step: DecimalBound) -> FloatRange
         return FloatRange::Bad;
     };
     if float_ordered(a, b) {
-        FloatRange::Within {
+        FloatRange::Is {
             min: a,
             max: b,
             step: step,
@@ -258,7 +257,7 @@ pub fn float_range(s: &[u8]) -> FloatRange
 pub fn is_float(format: &[u8], s: &[u8]) -> bool
     ensures { λ r. ⌜ r ≡ isFloat (now (format .entry)) (now (s .entry)) ⌝ }
 {
-    let FloatRange::Within { min, max, step: _ } = float_range(format) else {
+    let FloatRange::Is { min, max, step: _ } = float_range(format) else {
         return false;
     };
     let DecimalRead::Exact(v) = numbers::decimals::read_decimal(s) else {
@@ -269,7 +268,7 @@ pub fn is_float(format: &[u8], s: &[u8]) -> bool
 
 // A float from 0 to `most`.
 pub fn is_up_to(s: &[u8], most: u64) -> bool
-    ensures { λ r. ⌜ r ≡ upTo most (now (s .entry)) ⌝ }
+    ensures { λ r. ⌜ r ≡ isFloatUpTo most (now (s .entry)) ⌝ }
 {
     let DecimalRead::Exact(v) = numbers::decimals::read_decimal(s) else {
         return false;

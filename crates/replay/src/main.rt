@@ -7,7 +7,7 @@ mod show;
 
 // The bytes of the file from a place on, at most n.
 fn bytes(file: &[u8], from: usize, n: usize) -> &[u8] {
-    fields::slice(fields::slice(file, from, file.len()), 0, n)
+    text::slice(text::slice(file, from, file.len()), 0, n)
 }
 
 fn send(mem: &mut [u8], file: &[u8], i: usize) {
@@ -49,7 +49,7 @@ fn check(file: &[u8]) {
 fn main() {
     let mut input = [0u8; 65537];
     match lines::read_input(&mut input) {
-        Input::Bytes(n) => check(fields::slice(&input, 0, n)),
+        Input::Bytes(n) => check(text::slice(&input, 0, n)),
         Input::TooLong => show::refused(1),
     }
 }

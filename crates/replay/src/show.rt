@@ -7,7 +7,10 @@ use questions::States;
 use rules::LaneKind;
 use table::Offer;
 use table::Outcome;
-use topic::Place;
+use text::Place;
+
+// As an index.
+const PROPERTIES_MOST: usize = device::PROPERTIES_MOST as usize;
 
 // Ends the line at a place, and prints it.
 fn finish(out: &mut [u8], at: usize) {
@@ -73,7 +76,7 @@ fn lanes(out: &mut [u8], at: usize, mem: &[u8], id: &[u8], node: &[u8], property
 
 // The bytes at a place.
 fn bytes(mem: &[u8], p: Place) -> &[u8] {
-    fields::slice(mem, p.start, p.end)
+    text::slice(mem, p.start, p.end)
 }
 
 fn property(mem: &[u8], id: &[u8], n: Place, p: Place) {
@@ -90,9 +93,8 @@ fn property(mem: &[u8], id: &[u8], n: Place, p: Place) {
     finish(&mut out, end);
 }
 
-// A device has at most 24 properties.
 fn properties(mem: &[u8], id: &[u8]) {
-    for i in 0..24 {
+    for i in 0..PROPERTIES_MOST {
         match questions::property_of(mem, id, i) {
             Property::Refused(_) => return,
             Property::Is {

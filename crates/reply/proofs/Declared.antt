@@ -2,22 +2,23 @@
 use mathlib.Core.Path.{_≡_, refl, sym, ap, _∙_}
 use mathlib.Core.List.{List, [], _∷_}
 use mathlib.Core.Bool.{Bool, true, false, cond}
-use Prim.Native.Nat.{ℕ, zero, suc, _≤_, _<_}
+use Prim.Native.Nat.{ℕ, zero, suc, _^_, _≤_, _<_}
 use native.Mathlib.Omega.{arith}
 use lib.ListN.{length, take, getD}
 use lib.Dec.{ltb}
 use mir.Val.{boolByte}
+use Rattle.numbers.specs.Whole.{stands}
 use Rattle.payload.specs.Datatypes.{codeOf}
 use Rattle.payload.specs.declared.Format.{Format}
 use Rattle.payload.specs.declared.Format.the-variants.{AsGiven}
-use Rattle.fields.specs.Values.{textAt}
+use Rattle.fields.specs.Values.{stringBytes}
 use Rattle.fields.specs.Fields.{textIn}
 use Rattle.fields.specs.declared.Field.{Field}
 use Rattle.fields.specs.declared.Field.the-variants.{One}
 use Rattle.properties.specs.Property.{textOf}
 use Rattle.properties.specs.declared.Entry.{Entry}
 use Rattle.description.specs.declared.Description.{Description}
-use Rattle.reply.specs.Reply.{Reply, says, refuses, bit}
+use Rattle.reply.specs.Reply.{Reply, says, refuses, bit, twosComplement}
 use Rattle.reply.specs.Descriptions.{presence, place, isGiven, keptNumber, formatPlace, entryValues, entryAt, showDescription, showDeclared}
 use Rattle.reply.proofs.Shown.{as-bit}
 
@@ -25,16 +26,16 @@ pub description-refused : (d : Description) → d .taken ≡ false → showDescr
 unfolding showDescription
 description-refused d h = rw h
 
-pub description-shown : (d : Description) (x y z w : ℕ) → d .taken ≡ true → x ≡ presence (d .root) → y ≡ place (d .root) → z ≡ presence (d .parent) → w ≡ place (d .parent) → showDescription d ≡ says (d .version ∷ x ∷ y ∷ z ∷ w ∷ d .properties .n ∷ [])
+pub description-shown : (d : Description) (v x y z w : ℕ) → d .taken ≡ true → v ≡ twosComplement (stands (2 ^ 63) (d .version)) → x ≡ presence (d .root) → y ≡ place (d .root) → z ≡ presence (d .parent) → w ≡ place (d .parent) → showDescription d ≡ says (v ∷ x ∷ y ∷ z ∷ w ∷ d .properties .n ∷ [])
 unfolding showDescription
-description-shown d x y z w h a b c e = rw (h, a, b, c, e)
+description-shown d v x y z w h g a b c e = rw (h, g, a, b, c, e)
 
 -- ---- a property's format
 
 pub given-told : (s : List ℕ) (f x : Field) → f ≡ x → isGiven s x ≡ isGiven s f
 given-told s f x e = ap (isGiven s) (sym e)
 
-pub given-one : (s t : List ℕ) (f : Field) (k : ℕ) → f ≡ One k → t ≡ textAt s k → ltb 0 (length t) ≡ isGiven s f
+pub given-one : (s t : List ℕ) (f : Field) (k : ℕ) → f ≡ One k → t ≡ stringBytes s k → ltb 0 (length t) ≡ isGiven s f
 unfolding isGiven textOf textIn
 given-one s t f k e h = ap (λ (u : List ℕ). ltb 0 (length u)) h ∙ given-told s f (One k) e
 

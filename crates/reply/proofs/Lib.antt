@@ -1,4 +1,5 @@
 pub mod Out
 pub mod Shown
+pub mod Signed
 pub mod Declared
 pub mod Theorems

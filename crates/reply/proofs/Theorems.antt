@@ -1,9 +1,13 @@
--- `HOMIE5_VALUES` of include/homie5.h, 9, is enough for every answer.
-use Prim.Native.Nat.{ℕ, zero, suc, _≤_}
+-- What this crate promises beyond its contracts.
+use Prim.Native.Nat.{ℕ, zero, suc, _^_, _≤_, _<_}
 use native.Mathlib.Omega.{arith}
+use mathlib.Core.Path.{_≡_}
 use mathlib.Core.List.{List, [], _∷_}
 use mathlib.Core.Bool.{Bool, true, false, cond}
 use lib.ListN.{length, take}
+use mir.Syntax.{w64}
+use mir.Val.{toZ}
+use Rattle.numbers.specs.Whole.{stands}
 use Rattle.answer.specs.Answer.{Answer, refused, gives}
 use Rattle.trace.specs.declared.Checked.{Checked}
 use Rattle.trace.specs.declared.Checked.the-variants as checked
@@ -40,43 +44,47 @@ use Rattle.questions.specs.declared.Held.{Held}
 use Rattle.questions.specs.declared.Held.the-variants as held
 use Rattle.questions.specs.declared.Time.{Time}
 use Rattle.questions.specs.declared.Time.the-variants as time
-use Rattle.reply.specs.Reply.{Reply, refuses}
+use Rattle.reply.specs.Reply.{Reply, refuses, twosComplement, FitsArray}
 use Rattle.reply.specs.Files.{showChecked, eventValues, showReading, stepReply, showStep, showWritten}
 use Rattle.reply.specs.Judgements.{showTopic, showFlag, showNamed, showFormat}
 use Rattle.reply.specs.Descriptions.{entryValues, entryAt, showDescription, showDeclared}
 use Rattle.reply.specs.Answers.{showOffer, showNumber, showId, showStates, showRelative, showVersion, showProperty, showHeld, showTime}
+use Rattle.reply.proofs.Signed.{read-signed}
 
-abbrev pub Fits : Reply → Type 0
-Fits x = length (x .values) ≤ 9
+-- the bits that are shown of a version, read as a signed number of 64 bits, are the version
+pub signed-back : (v : ℕ) → v < 2 ^ 64 → toZ w64 (twosComplement (stands (2 ^ 63) v)) ≡ stands (2 ^ 63) v
+signed-back = read-signed
+
+-- ---- `HOMIE5_VALUES` of include/homie5.h, 9, is enough for every answer
 
 -- ---- trace files
 
-pub checked-fits : (a : Checked) → Fits (showChecked a)
+pub checked-fits : (a : Checked) → FitsArray (showChecked a)
 unfolding showChecked
 checked-fits (checked.Count n) = omega arith
 checked-fits (checked.Refused k) = omega arith
 
-pub reading-fits : (a : Reading) → Fits (showReading a)
+pub reading-fits : (a : Reading) → FitsArray (showReading a)
 unfolding showReading eventValues
 reading-fits (reading.Found e) = omega arith
 reading-fits (reading.Refused k) = omega arith
 
-step : (a : Reading) (at : ℕ) → Fits (stepReply a at)
+step : (a : Reading) (at : ℕ) → FitsArray (stepReply a at)
 unfolding stepReply eventValues
 step (reading.Found e) at = omega arith
 step (reading.Refused k) at = omega arith
 
-pub step-fits : (a : Step) → Fits (showStep a)
+pub step-fits : (a : Step) → FitsArray (showStep a)
 step-fits a = step (a .reading) (a .at)
 
-pub written-fits : (a : Written) → Fits (showWritten a)
+pub written-fits : (a : Written) → FitsArray (showWritten a)
 unfolding showWritten
 written-fits (writing.Length n) = omega arith
 written-fits (writing.Refused k) = omega arith
 
 -- ---- topics, datatypes, formats
 
-pub topic-fits : (a : Topic) → Fits (showTopic a)
+pub topic-fits : (a : Topic) → FitsArray (showTopic a)
 unfolding showTopic
 topic-fits (topic.Refused k) = omega arith
 topic-fits (State d) = omega arith
@@ -89,17 +97,17 @@ topic-fits (Log d l) = omega arith
 topic-fits (Broadcast ids) = omega arith
 topic-fits (Other d w ls) = omega arith
 
-pub flag-fits : (a : Answer Form) → Fits (showFlag a)
+pub flag-fits : (a : Answer Form) → FitsArray (showFlag a)
 unfolding showFlag
 flag-fits (refused k) = omega arith
 flag-fits (gives f) = omega arith
 
-pub named-fits : (a : Named) → Fits (showNamed a)
+pub named-fits : (a : Named) → FitsArray (showNamed a)
 unfolding showNamed
 named-fits Unknown = omega arith
 named-fits (Known d) = omega arith
 
-pub format-fits : (a : Format) → Fits (showFormat a)
+pub format-fits : (a : Format) → FitsArray (showFormat a)
 unfolding showFormat
 format-fits Bad = omega arith
 format-fits AsGiven = omega arith
@@ -109,70 +117,70 @@ format-fits NotKept = omega arith
 
 -- ---- descriptions
 
-either : (t : Bool) (x : Reply) (n : ℕ) → Fits x → Fits (cond t x (refuses n))
+either : (t : Bool) (x : Reply) (n : ℕ) → FitsArray x → FitsArray (cond t x (refuses n))
 either true x n h = h
 either false x n h = omega arith
 
-entry-fits : (s : List ℕ) (es : List Entry) (i : ℕ) → Fits (entryAt s es i)
+entry-fits : (s : List ℕ) (es : List Entry) (i : ℕ) → FitsArray (entryAt s es i)
 unfolding entryAt entryValues
 entry-fits s [] i = omega arith
 entry-fits s (e ∷ es) zero = omega arith
 entry-fits s (e ∷ es) (suc i) = entry-fits s es i
 
-pub description-fits : (a : declared.Description) → Fits (showDescription a)
+pub description-fits : (a : declared.Description) → FitsArray (showDescription a)
 unfolding showDescription
 description-fits a = either (a .taken) _ 15 (omega arith)
 
-pub declared-fits : (s : List ℕ) (a : declared.Description) (i : ℕ) → Fits (showDeclared s a i)
+pub declared-fits : (s : List ℕ) (a : declared.Description) (i : ℕ) → FitsArray (showDeclared s a i)
 unfolding showDeclared
 declared-fits s a i = either (a .taken) _ 15 (entry-fits s (take (a .properties .n) (a .properties .items)) i)
 
 -- ---- the table
 
-pub offer-fits : (a : Offer) → Fits (showOffer a)
+pub offer-fits : (a : Offer) → FitsArray (showOffer a)
 unfolding showOffer
 offer-fits (offer.Refused k) = omega arith
 offer-fits (offer.Steps n) = omega arith
 
-pub number-fits : (a : Number) → Fits (showNumber a)
+pub number-fits : (a : Number) → FitsArray (showNumber a)
 unfolding showNumber
 number-fits (number.Refused k) = omega arith
 number-fits (number.Is n) = omega arith
 
-pub id-fits : (a : Id) → Fits (showId a)
+pub id-fits : (a : Id) → FitsArray (showId a)
 unfolding showId
 id-fits (id.Refused k) = omega arith
 id-fits (id.At p) = omega arith
 
-pub states-fit : (a : States) → Fits (showStates a)
+pub states-fit : (a : States) → FitsArray (showStates a)
 unfolding showStates
 states-fit (states.Refused k) = omega arith
 states-fit (states.Are o e t) = omega arith
 
-pub relative-fits : (a : Relative) → Fits (showRelative a)
+pub relative-fits : (a : Relative) → FitsArray (showRelative a)
 unfolding showRelative
 relative-fits (relative.Refused k) = omega arith
 relative-fits relative.Nothing = omega arith
 relative-fits (relative.At p) = omega arith
 
-pub version-fits : (a : Version) → Fits (showVersion a)
+pub version-fits : (a : Version) → FitsArray (showVersion a)
 unfolding showVersion
 version-fits (version.Refused k) = omega arith
 version-fits version.Nothing = omega arith
 version-fits (version.Is v) = omega arith
 
-pub property-fits : (a : Property) → Fits (showProperty a)
+pub property-fits : (a : Property) → FitsArray (showProperty a)
 unfolding showProperty
 property-fits (property.Refused k) = omega arith
 property-fits (property.Is n i d f s r) = omega arith
 
-pub held-fits : (a : Held) → Fits (showHeld a)
+pub held-fits : (a : Held) → FitsArray (showHeld a)
 unfolding showHeld
 held-fits (held.Refused k) = omega arith
 held-fits held.Empty = omega arith
 held-fits (held.Holds t p) = omega arith
 
-pub time-fits : (a : Time) → Fits (showTime a)
+pub time-fits : (a : Time) → FitsArray (showTime a)
 unfolding showTime
 time-fits (time.Refused k) = omega arith
 time-fits time.Never = omega arith

@@ -1,6 +1,7 @@
 -- The table: what is shown of each answer of crates `table` and `questions`. A place is one of the lent memory.
-use Prim.Native.Nat.{ℕ}
+use Prim.Native.Nat.{ℕ, _^_}
 use mathlib.Core.List.{[], _∷_}
+use Rattle.numbers.specs.Whole.{stands}
 use Rattle.payload.specs.Datatypes as datatypes
 use Rattle.rules.specs.States.{codeOf}
 use Rattle.table.specs.declared.Outcome.{Outcome}
@@ -23,7 +24,7 @@ use Rattle.questions.specs.declared.Held.{Held}
 use Rattle.questions.specs.declared.Held.the-variants as held
 use Rattle.questions.specs.declared.Time.{Time}
 use Rattle.questions.specs.declared.Time.the-variants as time
-use Rattle.reply.specs.Reply.{Reply, says, refuses, bit}
+use Rattle.reply.specs.Reply.{Reply, says, refuses, bit, twosComplement}
 
 -- Paper 01, "Known examples": "answer (0 taken)"
 unfoldable pub outcomeNumber : Outcome → ℕ
@@ -56,11 +57,11 @@ showRelative (relative.Refused k) = refuses k
 showRelative relative.Nothing = says (0 ∷ [])
 showRelative (relative.At p) = says (1 ∷ p .start ∷ p .end ∷ [])
 
--- "version (its number), or none": the number plus 2^63
+-- "version (its number), or none": as an `int64_t`
 unfoldable pub showVersion : Version → Reply
 showVersion (version.Refused k) = refuses k
 showVersion version.Nothing = says (0 ∷ [])
-showVersion (version.Is v) = says (1 ∷ v ∷ [])
+showVersion (version.Is v) = says (1 ∷ twosComplement (stands (2 ^ 63) v) ∷ [])
 
 -- "the i-th property by node ID, then property ID, with its datatype, kept format and two flags"
 unfoldable pub showProperty : Property → Reply

@@ -1,9 +1,10 @@
 -- Descriptions: what is shown of what they declare. A place is where a string's opening quote stands in the text.
-use Prim.Native.Nat.{ℕ, zero, suc}
+use Prim.Native.Nat.{ℕ, zero, suc, _^_}
 use mathlib.Core.List.{List, [], _∷_}
 use mathlib.Core.Bool.{Bool, cond}
 use lib.ListN.{length, take}
 use lib.Dec.{ltb}
+use Rattle.numbers.specs.Whole.{stands}
 use Rattle.payload.specs.Datatypes.{codeOf}
 use Rattle.payload.specs.declared.Format.{Format}
 use Rattle.payload.specs.declared.Format.the-variants.{Bad, AsGiven, Colon, FalseTrue, NotKept}
@@ -13,7 +14,7 @@ use Rattle.fields.specs.Fields.{textIn}
 use Rattle.properties.specs.Property.{textOf}
 use Rattle.properties.specs.declared.Entry.{Entry}
 use Rattle.description.specs.declared.Description.{Description}
-use Rattle.reply.specs.Reply.{Reply, says, refuses, bit}
+use Rattle.reply.specs.Reply.{Reply, says, refuses, bit, twosComplement}
 
 -- 1 and a field's place; 0 and 0 where it has none
 unfoldable pub presence : Field → ℕ
@@ -26,9 +27,9 @@ place Absent = 0
 place (One k) = k
 place Twice = 0
 
--- Paper 01, "The table": "from its description: root, parent, version, properties": the version plus 2^63, the root, the parent, how many properties
+-- Paper 01, "The table": "from its description: root, parent, version, properties": the version as an `int64_t`, the root, the parent, how many properties
 unfoldable pub showDescription : Description → Reply
-showDescription d = cond (d .taken) (says (d .version ∷ presence (d .root) ∷ place (d .root) ∷ presence (d .parent) ∷ place (d .parent) ∷ d .properties .n ∷ [])) (refuses 15)
+showDescription d = cond (d .taken) (says (twosComplement (stands (2 ^ 63) (d .version)) ∷ presence (d .root) ∷ place (d .root) ∷ presence (d .parent) ∷ place (d .parent) ∷ d .properties .n ∷ [])) (refuses 15)
 
 -- whether a format with bytes stands in the text
 unfoldable pub isGiven : List ℕ → Field → Bool

@@ -1,7 +1,7 @@
 -- What the contracts of private functions cite. No promise rests on it.
 use Prim.Native.Nat.{ℕ}
 use mathlib.Core.List.{List, [], _∷_}
-use Rattle.topic.specs.declared.Place.{Place}
+use Rattle.text.specs.declared.Place.{Place}
 
 -- a number and places
 abbrev pub places1 : ℕ → Place → List ℕ

@@ -1,14 +1,23 @@
 -- What a call of the interface hands back: a number, and values in a lent array of numbers.
-use Prim.Native.Nat.{ℕ}
+use Prim.Native.Nat.{ℕ, suc, _-_, _^_, _≤_}
 use mathlib.Core.Path.{_≡_}
 use mathlib.Core.Bool.{Bool, not, cond}
 use mathlib.Core.List.{List, [], _++_}
 use lib.Dec.{eqb}
+use lib.IntN.{ℤ, pos, negsuc}
 use lib.ListN.{length, take, drop}
+use Rattle.answer.specs.Answer.{Answer, refused, gives}
 
 pub record Reply : Type 0 where
   pub number : ℕ
   pub values : List ℕ
+
+-- `HOMIE5_VALUES` of include/homie5.h: the length of an array that has room for every answer
+abbrev pub valuesMost : ℕ
+valuesMost = 9
+
+abbrev pub FitsArray : Reply → Type 0
+FitsArray x = length (x .values) ≤ valuesMost
 
 -- an answer is 0 and its values; "A refusal carries the paper's number for that fault and no part of an answer"
 abbrev pub says : List ℕ → Reply
@@ -16,6 +25,11 @@ says vs = record { number = 0; values = vs }
 
 abbrev pub refuses : ℕ → Reply
 refuses n = record { number = n; values = [] }
+
+-- the number of an answer of the definitions
+unfoldable pub refusalNumber : {A : Type 0} → Answer A → ℕ
+refusalNumber (refused n) = n
+refusalNumber (gives a) = 0
 
 -- a judgement is 1 for yes, 0 for no
 abbrev pub yes : List ℕ → Reply
@@ -26,6 +40,11 @@ no = record { number = 0; values = [] }
 
 unfoldable pub bit : Bool → ℕ
 bit b = cond b 1 0
+
+-- a whole number as the 64 bits of a C `int64_t`: two's complement; `negsuc n` is -(n + 1)
+unfoldable pub twosComplement : ℤ → ℕ
+twosComplement (pos n) = n
+twosComplement (negsuc n) = 2 ^ 64 - suc n
 
 -- a yes or no that comes as a number: anything but 0 is yes
 abbrev pub isSet : ℕ → Bool

@@ -4,6 +4,7 @@ ghost use Rattle.reply.specs.Reply.{Replied};
 ghost use Rattle.reply.specs.Answers.{outcomeNumber, showOffer, showNumber, showId, showStates, showRelative, showVersion, showProperty, showHeld, showTime};
 use crate::tell;
 use crate::tell_value;
+use crate::twos_complement;
 use questions::Held;
 use questions::Id;
 use questions::Number;
@@ -91,7 +92,8 @@ pub fn tell_version(out: &mut [u64], a: Version) -> u8
         Version::Refused(k) => k,
         Version::Nothing => tell_value(out, 0),
         Version::Is(v) => {
-            let vs = [1, v];
+            let number = twos_complement(v);
+            let vs = [1, number];
             tell(out, &vs)
         }
     }

@@ -4,6 +4,7 @@ ghost use lib.ListN.{take};
 ghost use Rattle.reply.specs.Reply.{Replied, says};
 ghost use Rattle.reply.specs.Descriptions.{presence, place, isGiven, keptNumber, formatPlace, entryValues, entryAt, showDescription, showDeclared};
 use crate::tell;
+use crate::twos_complement;
 use description::Description;
 use fields::Field;
 use payload::Format;
@@ -40,8 +41,9 @@ pub fn tell_description(out: &mut [u64], d: Description) -> u8
     let root = d.root;
     let parent = d.parent;
     let l = d.properties;
+    let version = twos_complement(d.version);
     let vs = [
-        d.version,
+        version,
         presence_of(root),
         place_of(root),
         presence_of(parent),

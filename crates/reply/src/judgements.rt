@@ -10,8 +10,8 @@ use crate::tell;
 use crate::tell_value;
 use payload::Format;
 use payload::Named;
+use text::Place;
 use topic::Flag;
-use topic::Place;
 use topic::Topic;
 
 fn tell_one(out: &mut [u64], form: u64, a: Place) -> u8

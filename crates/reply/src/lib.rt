@@ -1,6 +1,9 @@
 // What a call of the interface hands back of each answer of the crates below: a number, and values in the lent array `out`.
+ghost use Prim.Native.Nat.{_^_};
+ghost use mathlib.Core.Path.{_≡_};
 ghost use mathlib.Core.List.{_∷_, []};
-ghost use Rattle.reply.specs.Reply.{Replied, says};
+ghost use Rattle.numbers.specs.Whole.{stands};
+ghost use Rattle.reply.specs.Reply.{Replied, says, twosComplement};
 
 pub mod answers;
 pub mod descriptions;
@@ -27,4 +30,15 @@ fn tell_value(out: &mut [u64], v: u64) -> u8
 {
     let vs = [v];
     tell(out, &vs)
+}
+
+// The 64 bits of an `int64_t`: of the integer that `v` stands for.
+fn twos_complement(v: u64) -> u64
+    ensures { λ r. ⌜ r ≡ twosComplement (stands (2 ^ 63) v) ⌝ }
+{
+    if v < 9223372036854775808 {
+        v + 9223372036854775808
+    } else {
+        v - 9223372036854775808
+    }
 }

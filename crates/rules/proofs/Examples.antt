@@ -1,18 +1,9 @@
--- The paper's worked trace, over the definitions.
-use Prim.Native.Nat.{ℕ}
+-- The paper's worked trace is answered as it is written there, by computation.
 use mathlib.Core.Path.{_≡_, refl}
-use mathlib.Core.List.{List, [], _∷_}
-use mathlib.Core.Bool.{true, false}
-use mathlib.Core.Option.{none, some}
 use Rattle.text.specs.Ascii.{ascii}
-use Rattle.payload.specs.declared.Datatype.the-variants as D
-use Rattle.answer.specs.Answer.{Answer, refused, gives}
-use Rattle.book.specs.Book.{Call, message, question, steps, blank, answers}
-use Rattle.rules.specs.declared.DeviceState.the-variants.{Init}
-use Rattle.rules.specs.declared.LaneKind.the-variants as L
-use Rattle.rules.specs.Messages.{Message}
-use Rattle.rules.specs.Questions.{Question, askCount, askNth, askStates, askProperty, askLane, Value, taken, aNumber, anId, twoStates, aProperty, aLane}
+use Rattle.book.specs.Book.{blank, answers}
 use Rattle.rules.specs.Rules.{rules}
+use Rattle.rules.specs.Examples.{calls, expected}
 use Rattle.abnf.specs.Accepts as abnf
 use Rattle.answer.specs.Answer as answer
 use Rattle.text.specs.Bytes as bytes
@@ -45,63 +36,22 @@ use Rattle.rules.specs.Rules as outcomes
 use Rattle.rules.specs.States as states
 use Rattle.rules.specs.Table as table
 
-abbrev lamp : List ℕ
-lamp = ascii "lamp"
-
-abbrev light : List ℕ
-light = ascii "light"
-
-abbrev on : List ℕ
-on = ascii "on"
-
-abbrev pub calls : List (Call Message Question)
-calls =
-    message (record { time = 4294967290; topic = ascii "homie/5/lamp/$state"; retained = true; payload = ascii "init" })
-    ∷ message (record { time = 4294967300; topic = ascii "homie/5/lamp/$description"; retained = true; payload = ascii "{\"homie\":\"5.0\",\"version\":1,\"nodes\":{\"light\":{\"properties\":{\"on\":{\"datatype\":\"boolean\",\"settable\":true}}}}}" })
-    ∷ message (record { time = 4294967300; topic = ascii "homie/5/lamp/light/on/set"; retained = false; payload = ascii "true" })
-    ∷ message (record { time = 4294967301; topic = ascii "homie/5/lamp/light/on"; retained = true; payload = ascii "TRUE" })
-    ∷ question askCount
-    ∷ question (askNth 0)
-    ∷ question (askStates lamp)
-    ∷ question (askProperty lamp 0)
-    ∷ question (askLane lamp light on L.Value)
-    ∷ question (askLane lamp light on L.Target)
-    ∷ question (askLane lamp light on L.Asked)
-    ∷ steps
-    ∷ []
-
-abbrev pub said : List (Answer Value)
-said =
-    gives taken
-    ∷ gives taken
-    ∷ gives taken
-    ∷ refused 14
-    ∷ gives (aNumber 1)
-    ∷ gives (anId lamp)
-    ∷ gives (twoStates Init Init 4294967290)
-    ∷ gives (aProperty (record { node = light; id = on; datatype = D.Boolean; format = ascii "false,true"; settable = true; retained = true }))
-    ∷ gives (aLane none)
-    ∷ gives (aLane none)
-    ∷ gives (aLane (some (record { time = 4294967300; payload = ascii "true" })))
-    ∷ gives (aNumber 3)
-    ∷ []
-
-pub worked-trace : answers (rules (ascii "homie") 4) 3 (blank (rules (ascii "homie") 4)) calls ≡ said
+pub worked-trace : answers (rules (ascii "homie") 4) 3 (blank (rules (ascii "homie") 4)) calls ≡ expected
 unfolding abnf.isEmpty abnf.again abnf.starts abnf.accepts answer.require answer.andThen bytes.every ids.idByte ids.isId levels.onto levels.split utf8.isUtf8 utf8.startsBom
     utf8.isText flags.flagOf flags.admits topics.is topics.fits topics.end topics.when_give_else_ topics.formOf topics.readLevels topics.readTopic digits.digits
     digits.numeral integers.value json.byte json.run json.past json.isWs json.ws json.word json.andThen members.nextAt members.itemAt members.memberAt members.listFrom
     members.membersAt number.isDigit number.digitsEnd number.optional number.isMinus number.someDigits number.intAt number.fracAt number.isExp number.expAt number.numberAt
     strings.plainStep strings.textStep strings.text strings.stringAt value.kindOf value.after value.series value.listOf value.colon value.keyAt value.memberOf value.objectOf
     value.valueOf value.valueAt value.atEnd value.documentOf fields.holds fields.oneMore fields.pairs fields.fieldIn fields.field fields.optional fields.isPresent fields.isTwice
-    fields.textIn fields.flagIn fields.membersIn fields.plainIn fields.plainNames values.bytesAt values.textAt values.isText values.isObject values.isTrue values.isFlag values.members
+    fields.textIn fields.flagIn fields.membersIn fields.plainIn fields.plainNames values.valueBytes values.stringBytes values.isStringAt values.isObject values.isTrue values.isFlag values.members
     values.nameOf values.all values.isPlain values.ofKind entries.noneEmpty entries.noRepeats datatypes.datatypeNamed formats.keptFormat payloads.isPayload
-    property.datatypeIn property.isNamed property.plainText property.formatFits property.propertyRules property.typeOf property.textOf property.propertyAt property.insert
+    property.datatypeIn property.isKnown property.plainText property.formatFits property.propertyRules property.typeOf property.textOf property.propertyAt property.insert
     property.insertAll nodes.idRules nodes.propertyMember nodes.each nodes.nodeRules nodes.nodeMember nodes.propertiesAmong nodes.propertiesOf description.allDigits
     description.minorRules description.isHomie description.homieIn description.versionIn description.isNumber description.otherRules description.fieldRules
-    description.isOther description.familyRules description.declared description.isEnd description.validRules description.rules description.describedAt description.describe
+    description.isOther description.familyRules description.declared description.isEnd description.validRules description.rules description.describedIn description.describe
     book.from book.answers devices.find devices.change devices.insert devices.isNamed devices.findProperty devices.changeProperty devices.inDescription devices.inDevice
     messages.isEmpty messages.makeOrUpdate messages.byWord messages.obeyState messages.describedBy messages.obeyDescription messages.heldBy messages.fill messages.isValid
-    messages.sameFlag messages.valueRules messages.setRules messages.laneRules messages.obeyLane messages.obey messages.isDue messages.formOf messages.message questions.at
+    messages.sameFlag messages.valueRules messages.setRules messages.laneRules messages.obeyLane messages.obey messages.isDue messages.admittedForm messages.message questions.at
     questions.rootLost questions.effective questions.reply outcomes.outcome states.stateWorded table.laneOf table.withLane table.rootOf table.propertiesOf table.emptyLanes
     table.newDescription bytes.eqBytes entries.isIn
 worked-trace = refl

@@ -12,7 +12,7 @@ use Rattle.text.proofs.Bytes.{both, and-both, eqBytes-sym, eqBytes-true}
 use Rattle.text.proofs.Theorems.{transitive, compared}
 use Rattle.rules.specs.Table.{Device}
 use Rattle.rules.specs.Find.{find, change, remove, insert}
-use Rattle.rules.specs.Promises.{ascendsFrom, ascends, haveIds, Orderly}
+use Rattle.rules.specs.Promises.{ascendsFrom, ascends, haveIds, Invariant}
 
 and : {a b : Bool} → a ≡ true → b ≡ true → (a && b) ≡ true
 and p q = rw (p, q)
@@ -78,7 +78,7 @@ module _ (id : List ℕ) (f : Device → Device) (keeps : (v : Device) → f v .
   change-count [] = refl
   change-count (v ∷ vs) = both (eqBytes (v .id) id) (λ t. rw (t, change)) (λ t. rw (t, change) (ap suc (change-count vs)))
 
-  pub change-orderly : (d : ℕ) (ds : List Device) → Orderly d ds → Orderly d (change id f ds)
+  pub change-orderly : (d : ℕ) (ds : List Device) → Invariant d ds → Invariant d (change id f ds)
   change-orderly d ds o = record { ascending = change-ascends ds ∙ o .ascending; few = rw (change-count ds) (o .few); named = change-ids ds ∙ o .named }
 
 module _ (id : List ℕ) where
@@ -122,7 +122,7 @@ module _ (id : List ℕ) where
       isRefused (gives w) = false ≡ true
   remove-frees (u ∷ us) v e = both (eqBytes (u .id) id) (λ t. rw (t, remove)) (λ t. rw (t, remove) (ap suc (remove-frees us v (rw (t, find) at e))))
 
-  pub remove-orderly : (d : ℕ) (ds : List Device) → Orderly d ds → Orderly d (remove id ds)
+  pub remove-orderly : (d : ℕ) (ds : List Device) → Invariant d ds → Invariant d (remove id ds)
   remove-orderly d ds o = record { ascending = remove-ascends ds (o .ascending); few = omega (arith, remove-count ds, o .few); named = remove-ids ds (o .named) }
 
 module _ (w : Device) where
@@ -162,5 +162,5 @@ module _ (w : Device) where
   insert-count [] = refl
   insert-count (v ∷ vs) = both (lessBytes (w .id) (v .id)) (λ t. rw (t, insert)) (λ t. rw (t, insert) (ap suc (insert-count vs)))
 
-  pub insert-orderly : (d : ℕ) (ds : List Device) (n : ℕ) → find (w .id) ds ≡ refused n → isId (w .id) ≡ true → length ds < d → Orderly d ds → Orderly d (insert w ds)
+  pub insert-orderly : (d : ℕ) (ds : List Device) (n : ℕ) → find (w .id) ds ≡ refused n → isId (w .id) ≡ true → length ds < d → Invariant d ds → Invariant d (insert w ds)
   insert-orderly d ds n e i l o = record { ascending = insert-ascends ds n e (o .ascending); few = rw (insert-count ds) l; named = insert-ids ds i (o .named) }

@@ -1,7 +1,7 @@
 -- Which numbers a message and a question are refused with.
 use Prim.Native.Nat.{ℕ, zero, suc}
 use native.Mathlib.Omega.{arith}
-use mathlib.Core.Path.{_≡_, refl, subst}
+use mathlib.Core.Path.{_≡_, refl, sym, _∙_, subst}
 use mathlib.Core.List.{List, [], _∷_}
 use mathlib.Core.Bool.{Bool, true, false, _&&_, _||_, false≢true}
 use mathlib.Core.Option.{Option, none, some}
@@ -16,7 +16,7 @@ use Rattle.topic.specs.Topics as topics
 use Rattle.topic.specs.Topics.{when_give_else_}
 use Rattle.description.specs.Description.{describe}
 use Rattle.book.specs.Book.{refuses, CallOf, Book, answers, State, answer}
-use Rattle.book.proofs.Answers.{Everywhere}
+use Rattle.book.specs.Promises.{Everywhere}
 use Rattle.book.proofs.Theorems.{everywhere, every-state}
 use Rattle.rules.specs.declared.DeviceState.{DeviceState}
 use Rattle.rules.specs.declared.LaneKind.{LaneKind}
@@ -29,17 +29,17 @@ use Rattle.rules.specs.Questions.{Question, askCount, askNth, askStates,
 use Rattle.rules.specs.Rules.{rules, outcome}
 
 -- a refusal's number passes a test
-abbrev Passes : {A : Type 0} → (ℕ → Bool) → Answer A → Type 0
+abbrev pub Passes : {A : Type 0} → (ℕ → Bool) → Answer A → Type 0
 Passes test (refused n) = test n ≡ true
 Passes test (gives x) = true ≡ true
 
 module _ (test : ℕ → Bool) where
-  required : {A : Type 0} (t : Bool) (n : ℕ) (a : Answer A) → test n ≡ true → Passes test a → Passes test (require t n a)
+  pub required : {A : Type 0} (t : Bool) (n : ℕ) (a : Answer A) → test n ≡ true → Passes test a → Passes test (require t n a)
   unfolding require
   required true n a p q = q
   required false n a p q = p
 
-  then : {A B : Type 0} (a : Answer A) (f : A → Answer B) → Passes test a → ((x : A) → Passes test (f x)) → Passes test (andThen a f)
+  pub then : {A B : Type 0} (a : Answer A) (f : A → Answer B) → Passes test a → ((x : A) → Passes test (f x)) → Passes test (andThen a f)
   unfolding andThen
   then (refused n) f p q = p
   then (gives x) f p q = q x
@@ -58,7 +58,7 @@ module _ (test : ℕ → Bool) where
   found-property node id [] p = p
   found-property node id (q ∷ ps) p = chosen (isNamed node id q) (gives q) (findProperty node id ps) refl (found-property node id ps p)
 
-  placed : {A : Type 0} (i : ℕ) (l : List A) → test 3 ≡ true → Passes test (at i l)
+  pub placed : {A : Type 0} (i : ℕ) (l : List A) → test 3 ≡ true → Passes test (at i l)
   unfolding at
   placed i [] p = p
   placed zero (x ∷ l) p = refl
@@ -79,7 +79,7 @@ module _ (test : ℕ → Bool) where
   unfolding topics.formOf
   formed ls p = row _ _ _ (row _ _ _ (row _ _ _ (row _ _ _ (row _ _ _ (row _ _ _ (row _ _ _ (row _ _ _ (row _ _ _ p))))))))
 
-  read-levels : (domain : List ℕ) (ls : List (List ℕ)) → test 8 ≡ true → test 9 ≡ true → Passes test (topics.readLevels domain ls)
+  pub read-levels : (domain : List ℕ) (ls : List (List ℕ)) → test 8 ≡ true → test 9 ≡ true → Passes test (topics.readLevels domain ls)
   unfolding topics.readLevels
   read-levels domain [] p q = p
   read-levels domain (l ∷ []) p q = p
@@ -130,15 +130,15 @@ obeys d x ds (form.log id l) = of-device ofMessage id ds _ refl (λ v. refl)
 obeys d x ds (form.broadcast ids) = refl
 obeys d x ds (form.other id w ls) = of-device ofMessage id ds _ refl (λ v. refl)
 
-formed-message : (domain : List ℕ) (t : Table) (x : rule.Message) → Passes ofMessage (rule.formOf domain t x)
-unfolding rule.formOf topics.readTopic
+formed-message : (domain : List ℕ) (t : Table) (x : rule.Message) → Passes ofMessage (rule.admittedForm domain t x)
+unfolding rule.admittedForm topics.readTopic
 formed-message domain t x =
     required ofMessage _ 7 _ refl
     (then ofMessage (topics.readTopic domain (x .topic)) _ (read-levels ofMessage domain (split slash (x .topic)) refl refl) (λ f. required ofMessage _ 10 _ refl (required ofMessage _ 11 _ refl refl)))
 
 pub message-passes : (domain : List ℕ) (d : ℕ) (t : Table) (x : rule.Message) → Passes ofMessage (rule.message domain d t x)
 unfolding rule.message
-message-passes domain d t x = then ofMessage (rule.formOf domain t x) _ (formed-message domain t x) (λ f. then ofMessage (rule.obey d x (t .devices) f) _ (obeys d x (t .devices) f) (λ ds. refl))
+message-passes domain d t x = then ofMessage (rule.admittedForm domain t x) _ (formed-message domain t x) (λ f. then ofMessage (rule.obey d x (t .devices) f) _ (obeys d x (t .devices) f) (λ ds. refl))
 
 -- ---- a question: 3, 12, 16
 
@@ -158,9 +158,9 @@ reply-passes t (askProperty d i) = of-device ofQuestion d (t .devices) _ refl (�
 reply-passes t (askLane d n p k) = of-device ofQuestion d (t .devices) _ refl (λ v. then ofQuestion (findProperty n p (propertiesOf (v .description))) _ (found-property ofQuestion n p (propertiesOf (v .description)) refl) (λ q. refl))
 reply-passes t askLast = refl
 
--- ---- the book's answers: never 6
+-- ---- the book's answers
 
-passed : {A : Type 0} {a : Answer A} {n : ℕ} (test : ℕ → Bool) → Passes test a → a ≡ refused n → test n ≡ true
+pub passed : {A : Type 0} {a : Answer A} {n : ℕ} (test : ℕ → Bool) → Passes test a → a ≡ refused n → test n ≡ true
 passed {A} test p e = subst (λ (b : Answer A). Passes test b) e p
 
 pub message-refused : (domain : List ℕ) (d : ℕ) (t : Table) (x : rule.Message) (n : ℕ) → rule.message domain d t x ≡ refused n → (leb 7 n && leb n 17) ≡ true
@@ -169,23 +169,34 @@ message-refused domain d t x n e = passed ofMessage (message-passes domain d t x
 pub reply-refused : (t : Table) (q : Question) (n : ℕ) → reply t q ≡ refused n → (eqb n 3 || (eqb n 12 || eqb n 16)) ≡ true
 reply-refused t q n e = passed ofQuestion (reply-passes t q) e
 
-module _ (domain : List ℕ) (d : ℕ) where
-  told-no-six : (b : Answer Table) (a : Answer Value) → Passes ofMessage b → outcome b ≡ refuses a → a ≡ refused 6 → ⊥
+-- a number that neither a message nor a question is refused with, and not 18
+module _ (domain : List ℕ) (d n : ℕ) (m : ofMessage n ≡ false) (q : ofQuestion n ≡ false) (s : eqb 18 n ≡ false) where
+  told-never : (b : Answer Table) (a : Answer Value) → Passes ofMessage b → outcome b ≡ refuses a → a ≡ refused n → ⊥
   unfolding outcome
-  told-no-six (refused n) a p e f = let g : _≡_ {A = Answer Value} (refused n) (refused 6) = cc in false≢true (passed {A = Value} {a = refused n} ofMessage p g)
-  told-no-six (gives t) a p e f = let z : _≡_ {A = ℕ} 0 1 = cc in absurd (omega arith)
+  told-never (refused k) a p e f = let g : _≡_ {A = Answer Value} (refused k) (refused n) = cc in false≢true (sym m ∙ passed {A = Value} {a = refused k} ofMessage p g)
+  told-never (gives t) a p e f = let z : _≡_ {A = ℕ} 0 1 = cc in absurd (omega arith)
 
-  everywhere-no-six : Everywhere (rules domain d) (λ (a : Answer Value). a ≡ refused 6 → ⊥)
-  everywhere-no-six = record {
-    taken = λ e. false≢true (passed {a = gives taken} (eqb 18) refl e);
-    none = λ e. false≢true (passed {a = refused 18} (eqb 18) refl e);
-    offers = λ n e. false≢true (passed {a = gives (aNumber n)} (eqb 18) refl e);
-    refusals = λ t x a e f. told-no-six (rule.message domain d t x) a (message-passes domain d t x) e f;
-    replies = λ t q e. false≢true (passed ofQuestion (reply-passes t q) e);
+  everywhere-never : Everywhere (rules domain d) (λ (a : Answer Value). a ≡ refused n → ⊥)
+  everywhere-never = record {
+    taken = λ e. false≢true (sym s ∙ passed {a = gives taken} (eqb 18) refl e);
+    none = λ e. false≢true (sym s ∙ passed {a = refused 18} (eqb 18) refl e);
+    offers = λ k e. false≢true (sym s ∙ passed {a = gives (aNumber k)} (eqb 18) refl e);
+    refusals = λ t x a e f. told-never (rule.message domain d t x) a (message-passes domain d t x) e f;
+    replies = λ t c e. false≢true (sym q ∙ passed ofQuestion (reply-passes t c) e);
   }
 
+  pub book-never : (j : ℕ) (b : Book (rules domain d)) (calls : List (CallOf (rules domain d))) (i : ℕ) → getD (answers (rules domain d) j b calls) i (gives taken) ≡ refused n → ⊥
+  book-never = everywhere (rules domain d) (λ (a : Answer Value). a ≡ refused n → ⊥) everywhere-never
+
+  pub state-never : (t : State Table) (c : CallOf (rules domain d)) → answer (rules domain d) t c ≡ refused n → ⊥
+  state-never = every-state (rules domain d) (λ (a : Answer Value). a ≡ refused n → ⊥) everywhere-never
+
+module _ (domain : List ℕ) (d : ℕ) where
   pub no-six : (j : ℕ) (b : Book (rules domain d)) (calls : List (CallOf (rules domain d))) (i : ℕ) → getD (answers (rules domain d) j b calls) i (gives taken) ≡ refused 6 → ⊥
-  no-six = everywhere (rules domain d) (λ (a : Answer Value). a ≡ refused 6 → ⊥) everywhere-no-six
+  no-six = book-never domain d 6 refl refl refl
 
   pub state-no-six : (s : State Table) (c : CallOf (rules domain d)) → answer (rules domain d) s c ≡ refused 6 → ⊥
-  state-no-six = every-state (rules domain d) (λ (a : Answer Value). a ≡ refused 6 → ⊥) everywhere-no-six
+  state-no-six = state-never domain d 6 refl refl refl
+
+  pub state-no-zero : (s : State Table) (c : CallOf (rules domain d)) → answer (rules domain d) s c ≡ refused 0 → ⊥
+  state-no-zero = state-never domain d 0 refl refl refl

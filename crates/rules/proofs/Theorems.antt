@@ -20,25 +20,26 @@ use Rattle.rules.specs.Find.{find}
 use Rattle.rules.specs.Messages.{Message, isEmpty, withDescription, describedBy, heldBy, obey, message}
 use Rattle.rules.specs.Questions.{Question, askLane, aLane, effective, reply}
 use Rattle.rules.specs.Rules.{rules, outcome}
-use Rattle.rules.specs.Promises.{Takes, ascends, haveIds, Orderly, NotBefore, updated, without, deviceIn, isReport, Proper}
+use Rattle.rules.specs.Promises.{Takes, ascends, haveIds, Invariant, NotBefore, updated, without, deviceIn, isReport, Proper}
 use Rattle.rules.proofs.Answers.{Given, given}
 use Rattle.rules.proofs.Refusals.{message-refused, reply-refused}
 use Rattle.rules.proofs.Taken.{form-message, last-given, from-orderly, from-due}
 use Rattle.rules.proofs.Proper.{from-proper}
 use Rattle.rules.proofs.Effects.{obey-others, obey-report, lane-forgotten, lane-others-asked, value-asked, value-target, state-made, state-removed, state-freed, state-lanes, description-changed, lane-filled}
 use Rattle.rules.proofs.Effective.{no-root, root-lost, root-not-lost}
-use Rattle.rules.proofs.Examples as examples
+use Rattle.rules.specs.Examples as examples
+use Rattle.rules.proofs.Examples as computed
 
 -- ---- every table
 
 -- "the i-th by ascending ID bytes": after any list of messages the IDs of the devices strictly ascend, each is an ID, and they are at most D
-pub orderly : (domain : List ℕ) (d : ℕ) (xs : List Message) → Orderly d (book.tableOf (rules domain d) xs .devices)
+pub orderly : (domain : List ℕ) (d : ℕ) (xs : List Message) → Invariant d (book.tableAfter (rules domain d) xs .devices)
 unfolding ascends haveIds
 orderly domain d xs = from-orderly domain d noDevices xs (record { ascending = refl; few = omega arith; named = refl })
 
 -- "the i-th property by node ID, then property ID": after any list of messages what a device declares is what a valid description may (at most 24
 -- properties, strictly ascending, IDs, kept formats), and its lanes are empty or hold payloads that are valid for their property
-pub proper : (domain : List ℕ) (d : ℕ) (xs : List Message) {id : List ℕ} {v : Device} {y : Description} → find id (book.tableOf (rules domain d) xs .devices) ≡ gives v → v .description ≡ some y → Proper id y
+pub proper : (domain : List ℕ) (d : ℕ) (xs : List Message) {id : List ℕ} {v : Device} {y : Description} → find id (book.tableAfter (rules domain d) xs .devices) ≡ gives v → v .description ≡ some y → Proper id y
 proper domain d xs {id} {v} {y} e i = from-proper domain d noDevices xs refl id v y e i
 
 -- "Every message taken becomes the last time"; the last time never falls
@@ -61,7 +62,7 @@ module _ (domain : List ℕ) (d : ℕ) where
     state-word {id} {s} h e = effect (λ ds. find id ds ≡ gives (updated id s (x .time) (find id (t .devices)))) h (state-made d x (t .devices) id s e)
 
     -- "empty payload removes it"
-    pub state-empty : {id : List ℕ} → Takes domain d t x (form.state id) t′ → Orderly d (t .devices) → isEmpty (x .payload) ≡ true → find id (t′ .devices) ≡ refused 12
+    pub state-empty : {id : List ℕ} → Takes domain d t x (form.state id) t′ → Invariant d (t .devices) → isEmpty (x .payload) ≡ true → find id (t′ .devices) ≡ refused 12
     unfolding obey
     state-empty {id} h o e = effect (λ ds. find id ds ≡ refused 12) h (state-removed d x (t .devices) id (o .ascending) e)
 
@@ -137,7 +138,7 @@ module _ (domain : List ℕ) (d : ℕ) where
   unfolding outcome
   refused-stays j n s x e = ap (λ a. book.moved (rules domain d) j s (outcome a)) e
 
-  pub refused-unnoted : (j n : ℕ) (b : book.Book (rules domain d)) (x : Message) → message domain d (book.tableOf (rules domain d) (b .standing)) x ≡ refused n → book.after (rules domain d) j b (book.message x) ≡ b
+  pub refused-unnoted : (j n : ℕ) (b : book.Book (rules domain d)) (x : Message) → message domain d (book.tableAfter (rules domain d) (b .standing)) x ≡ refused n → book.after (rules domain d) j b (book.message x) ≡ b
   unfolding outcome
   refused-unnoted j n b x e = ap (λ a. book.noted (rules domain d) j b x (outcome a)) e
 
@@ -163,5 +164,5 @@ module _ (ds : List Device) (v : Device) where
   effective-no-root e = no-root ds v e
 
 -- The paper's worked trace is answered as it is written there.
-pub worked-trace : book.answers (rules (ascii "homie") 4) 3 (book.blank (rules (ascii "homie") 4)) examples.calls ≡ examples.said
-worked-trace = examples.worked-trace
+pub worked-trace : book.answers (rules (ascii "homie") 4) 3 (book.blank (rules (ascii "homie") 4)) examples.calls ≡ examples.expected
+worked-trace = computed.worked-trace

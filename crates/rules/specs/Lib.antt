@@ -5,3 +5,4 @@ pub mod Messages
 pub mod Questions
 pub mod Rules
 pub mod Promises
+pub mod Examples

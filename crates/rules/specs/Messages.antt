@@ -136,8 +136,8 @@ isDue none time = true
 isDue (some last) time = leb last time
 
 -- the form of a message that passes 7 to 11 (forms with a fixed flag)
-unfoldable pub formOf : List ℕ → Table → Message → Answer form.Form
-formOf domain t x =
+unfoldable pub admittedForm : List ℕ → Table → Message → Answer form.Form
+admittedForm domain t x =
     require (isDue (t .last) (x .time)) 7
     (andThen (readTopic domain (x .topic)) (λ f.
     require (isText (x .payload)) 10
@@ -147,6 +147,6 @@ formOf domain t x =
 -- "Every message taken becomes the last time"
 unfoldable pub message : (domain : List ℕ) → (d : ℕ) → Table → Message → Answer Table
 message domain d t x =
-    andThen (formOf domain t x) (λ f.
+    andThen (admittedForm domain t x) (λ f.
     andThen (obey d x (t .devices) f) (λ ds.
     gives (record { devices = ds; last = some (x .time) })))

@@ -15,11 +15,11 @@ use Rattle.rules.specs.declared.DeviceState.{DeviceState}
 use Rattle.rules.specs.declared.LaneKind.{LaneKind}
 use Rattle.rules.specs.Table.{Held, Property, Description, Device, Table, withLane}
 use Rattle.rules.specs.Find.{inDevice}
-use Rattle.rules.specs.Messages.{Message, withState, newDevice, isValid, formOf, message}
+use Rattle.rules.specs.Messages.{Message, withState, newDevice, isValid, admittedForm, message}
 
 -- a message of that form, taken by the table t, which is t′ then
 pub record Takes (domain : List ℕ) (d : ℕ) (t : Table) (x : Message) (f : form.Form) (t′ : Table) : Type 0 where
-  pub formed : formOf domain t x ≡ gives f
+  pub formed : admittedForm domain t x ≡ gives f
   pub taken : message domain d t x ≡ gives t′
 
 -- "by ascending ID bytes": each ID stands before the next one, so none stands twice
@@ -37,7 +37,7 @@ haveIds [] = true
 haveIds (v ∷ vs) = isId (v .id) && haveIds vs
 
 -- what holds of the devices of every table, opened for at most d of them
-pub record Orderly (d : ℕ) (ds : List Device) : Type 0 where
+pub record Invariant (d : ℕ) (ds : List Device) : Type 0 where
   pub ascending : ascends ds ≡ true
   pub few : length ds ≤ d
   pub named : haveIds ds ≡ true

@@ -10,13 +10,13 @@ use lib.Seq.{take-all}
 use Rattle.answer.specs.Answer.{Answer, refused, gives, require, andThen}
 use Rattle.answer.proofs.Theorems.{require-holds, require-fails}
 use Rattle.topic.specs.Form.{Form}
-use Rattle.topic.specs.Meaning.{bytesAt}
-use Rattle.topic.specs.declared.Place.{Place}
+use Rattle.text.specs.Places.{bytesAt}
+use Rattle.text.specs.declared.Place.{Place}
 use Rattle.json.specs.Bytes.{ws}
 use Rattle.fields.specs.Fields.{holds}
 use Rattle.properties.specs.Property.{Property}
 use Rattle.properties.specs.Entries.{view}
-use Rattle.description.specs.Description.{Described, rules, describe, describedAt as describedIn}
+use Rattle.description.specs.Description.{Described, rules, describe, describedIn}
 use Rattle.description.specs.Meaning.{listed, meaning}
 use Rattle.description.specs.declared.Description.{Description}
 use Rattle.memory.specs.Bytes.{removeAt, insertAt}
@@ -28,23 +28,24 @@ use Rattle.rules.specs.declared.LaneKind.{LaneKind}
 use Rattle.rules.specs.Table.{Device, Table, withLane, newDescription}
 use Rattle.rules.specs.Find.{inDevice, changeAt}
 use Rattle.rules.specs.Messages as rule
-use Rattle.rules.specs.Messages.{Message, heldBy, newDevice, withState, withDescription, formOf, obey}
+use Rattle.rules.specs.Messages.{Message, heldBy, newDevice, withState, withDescription, admittedForm, obey}
 use Rattle.rules.specs.Questions.{Value, taken}
 use Rattle.rules.specs.Rules.{outcome}
-use Rattle.device.specs.Layout.{describedAt, laneAt, laneSize, idMost, payloadMost}
-use Rattle.lookup.specs.Meaning.{Sound, lastOf, openingOf, means}
+use Rattle.text.specs.Ids.{idMost}
+use Rattle.device.specs.Layout.{describedAt, laneAt, laneSize, payloadMost}
+use Rattle.lookup.specs.Meaning.{Sound, lastOf, openingOf, means, devicesIn}
 use Rattle.lookup.specs.Contract.{Did, isTaken}
 use Rattle.lookup.proofs.Edits as edit
 use Rattle.lookup.proofs.Theorems.{left, took}
 use Rattle.verdict.specs.declared.Verdict.{Verdict}
 use Rattle.verdict.specs.declared.Verdict.the-variants as verdict
-use Rattle.verdict.specs.Verdict.{makes, Fits, Verdicts, obeyed}
+use Rattle.verdict.specs.Verdict.{sent, makes, Verdicts, obeyed}
 use Rattle.device.specs.Meaning.{laneNumber}
-use Rattle.patch.specs.Makes.{Makes, LaneMakes, held}
+use Rattle.patch.specs.Makes.{Makes, LaneMakes, heldSince}
 use Rattle.patch.proofs.Theorems.{lane, lane-inside}
 use Rattle.imprint.specs.Contract.{Imprinted}
 use Rattle.imprint.proofs.Theorems as imprint
-use Rattle.table.specs.Parts.{devicesIn, Writes, Patches, Changes, Keeps, Removes, Creates, Fills, Describes}
+use Rattle.table.specs.Parts.{Obeys, Carries, Fills, Creates, Describes, Patches, Writes}
 
 -- "Every message taken becomes the last time"
 abbrev since : ℕ → List Device → Table
@@ -58,7 +59,7 @@ module _ (domain : List ℕ) (d : ℕ) (t : Table) (x : Message) where
 
   by-devices : rule.message domain d t x ≡ andThen (obeyed domain d t x) (λ ds. gives (since (x .time) ds))
   unfolding rule.message obeyed
-  by-devices = again (formOf domain t x)
+  by-devices = again (admittedForm domain t x)
 
   pub taken-as : (ds : List Device) → obeyed domain d t x ≡ gives ds → rule.message domain d t x ≡ gives (since (x .time) ds)
   unfolding andThen
@@ -94,34 +95,51 @@ module _ (m : List ℕ) (n : ℕ) (count : n ≡ length (devicesIn m)) (bytes : 
   })
 
   pub created : (rank : ℕ) (id : List ℕ) (t : DeviceState) → length bytes ≤ roomSize → (length id ≤ idMost → Makes 0 bytes (λ _. newDevice id t time)) → Writes m n rank (n + 1) 0 bytes time m′ o → Creates m rank id t time m′ o
-  created rank id t z k w s h q i = w s (insertAt rank (newDevice id t time) (devicesIn m)) (λ head e l. record {
-    able = edit.create-able m s n count head time l rank bytes z e (omega arith) (omega arith);
-    table = edit.created m s n count head time l rank bytes z e (omega arith) (omega arith) (newDevice id t time) (k i .makes);
-  })
+  unfolding makes
+  created rank id t z k w topic retained payload p q s j =
+      let i = subst (λ (u : List ℕ). length u ≤ idMost) (sym q) (j .fits .2) in
+      w s (insertAt rank (newDevice id t time) (devicesIn m)) (λ head e l. record {
+        able = edit.create-able m s n count head time l rank bytes z e (omega (arith, j .fits .0)) (omega (arith, j .fits .1));
+        table = edit.created m s n count head time l rank bytes z e (omega (arith, j .fits .0)) (omega (arith, j .fits .1)) (newDevice id t time) (k i .makes);
+      }) (sent time topic retained payload) refl (sym (j .says) ∙ ap (λ (u : List ℕ). gives (insertAt rank (newDevice u t time) (devicesIn m))) (sym q))
 
 module _ (m : List ℕ) (n : ℕ) (count : n ≡ length (devicesIn m)) (time : ℕ) (m′ : List ℕ) (o : Answer Value) where
-  pub kept : Writes m 0 0 n 0 [] time m′ o → Keeps m time m′ o
-  kept w s = w s (devicesIn m) (λ head e l. record { able = edit.time-able m s n count head time l e; table = edit.timed m s n count head time l e })
+  pub kept : Writes m 0 0 n 0 [] time m′ o → Carries m time verdict.Time m′ o
+  unfolding makes
+  kept w topic retained payload s j =
+      w s (devicesIn m) (λ head e l. record { able = edit.time-able m s n count head time l e; table = edit.timed m s n count head time l e })
+      (sent time topic retained payload) refl (sym (j .says))
 
-  pub removed : (rank k : ℕ) → n ≡ k + 1 → Writes m rank k k 0 [] time m′ o → Removes m rank time m′ o
-  removed rank k p w s h = w s (removeAt rank (devicesIn m)) (λ head e l. record {
-    able = edit.remove-able m s n count head time l rank k e p (omega arith);
-    table = edit.removed m s n count head time l rank k e p (omega arith);
-  })
+  pub removed : (rank k : ℕ) → n ≡ k + 1 → Writes m rank k k 0 [] time m′ o → Carries m time (verdict.Remove rank) m′ o
+  unfolding makes
+  removed rank k p w topic retained payload s j = w s (removeAt rank (devicesIn m)) (λ head e l. record {
+    able = edit.remove-able m s n count head time l rank k e p (omega (arith, j .fits));
+    table = edit.removed m s n count head time l rank k e p (omega (arith, j .fits));
+  }) (sent time topic retained payload) refl (sym (j .says))
 
-pub removed-none : (m : List ℕ) (rank time : ℕ) (m′ : List ℕ) (o : Answer Value) → 0 ≡ length (devicesIn m) → Removes m rank time m′ o
-removed-none m rank time m′ o e s h = absurd (omega arith)
+pub removed-none : (m : List ℕ) (rank time : ℕ) (m′ : List ℕ) (o : Answer Value) → 0 ≡ length (devicesIn m) → Carries m time (verdict.Remove rank) m′ o
+removed-none m rank time m′ o e topic retained payload s j = absurd (omega (arith, j .fits))
 
 pub created-none : (m : List ℕ) (rank : ℕ) (id : List ℕ) (t : DeviceState) (time : ℕ) (m′ : List ℕ) (o : Answer Value) → 255 ≡ length (devicesIn m) → Creates m rank id t time m′ o
-created-none m rank id t time m′ o e s h q i = absurd (omega (arith, edit.devices-most m, s .memory .header))
+created-none m rank id t time m′ o e topic retained payload p q s j = absurd (omega (arith, edit.devices-most m, s .memory .header, j .fits .1))
 
--- ---- a lane
+-- ---- a device changed
 
-pub filled : (m : List ℕ) (rank i : ℕ) (kind : LaneKind) (payload : List ℕ) (time : ℕ) (m′ : List ℕ) (o : Answer Value) (offset : ℕ) (bytes : List ℕ) → offset ≡ laneAt i (laneNumber kind) → length bytes ≡ laneSize
-    → LaneMakes bytes (held time (take payloadMost payload)) → Patches m rank offset bytes time m′ o → Fills m rank i kind payload time m′ o
-filled m rank i kind payload time m′ o offset bytes e l k w hi hp s h =
-    let f = inDevice (changeAt i (withLane kind (held time payload))) in
-    w s h (omega (arith, lane-inside i kind hi)) f (subst (λ (a : ℕ). Makes a bytes f) (sym e) (lane bytes payload time hp k .makes i kind hi))
+module _ (m : List ℕ) (rank offset : ℕ) (bytes : List ℕ) (time : ℕ) (m′ : List ℕ) (o : Answer Value) (w : Patches m rank offset bytes time m′ o) where
+  pub stated : (t : DeviceState) → offset + length bytes ≤ roomSize → Makes offset bytes (withState t time) → Carries m time (verdict.State rank t) m′ o
+  unfolding makes
+  stated t i k topic retained payload s j = w s (j .fits) i (withState t time) k (sent time topic retained payload) refl (sym (j .says))
+
+  pub undescribed : offset + length bytes ≤ roomSize → Makes offset bytes (withDescription none) → Carries m time (verdict.Undescribe rank) m′ o
+  unfolding makes
+  undescribed i k topic retained payload s j = w s (j .fits) i (withDescription none) k (sent time topic retained payload) refl (sym (j .says))
+
+  pub filled : (i : ℕ) (kind : LaneKind) (payload : List ℕ) → offset ≡ laneAt i (laneNumber kind) → length bytes ≡ laneSize → LaneMakes bytes (heldSince time (take payloadMost payload)) → Fills m rank i kind payload time m′ o
+  unfolding makes heldSince heldBy
+  filled i kind payload e l k topic retained s j =
+      let f = inDevice (changeAt i (withLane kind (heldSince time payload))) in
+      w s (j .fits .0) (omega (arith, lane-inside i kind (j .fits .1))) f (subst (λ (a : ℕ). Makes a bytes f) (sym e) (lane bytes payload time (j .fits .2) k .makes i kind (j .fits .1)))
+      (sent time topic retained payload) refl (sym (j .says))
 
 -- ---- a description
 
@@ -148,56 +166,31 @@ module _ (m : List ℕ) (rank : ℕ) (id payload : List ℕ) (time : ℕ) (d : D
   abbrev new : Described → Answer (List Device)
   new y = gives (changeAt rank (withDescription (some (newDescription y))) (devicesIn m))
 
+  -- what the rules make of the devices, by what the description is
+  by-description : (x : Message) (p : Place) (a : Answer Described) → x .payload ≡ payload → id ≡ bytesAt (x .topic) p → describe id payload ≡ a → Verdicts m x (verdict.Describe rank p) → obeyed (openingOf m .domain) (openingOf m .devices) (means m .now) x ≡ andThen a new
+  unfolding makes
+  by-description x p a z q g j = sym (j .says) ∙ ap (λ (u : List ℕ). andThen (describe u (x .payload)) new) (sym q) ∙ ap (λ (u : List ℕ). andThen (describe id u) new) z ∙ ap (λ (u : Answer Described). andThen u new) g
+
   pub described-not : d .taken ≡ false → Describes m rank id payload time m (refused 15)
   unfolding andThen
-  described-not f s h x t q = refuses m x 15 s (q ∙ ap (λ (a : Answer Described). andThen a new) (is-refused id payload d e f))
+  described-not f topic retained p q s j = let x = sent time topic retained payload in refuses m x 15 s (by-description x p (refused 15) refl q (is-refused id payload d e f) j)
 
   pub described : d .taken ≡ true → (image : List ℕ) → length image ≡ roomSize → Imprinted payload d image → (m′ : List ℕ) (o : Answer Value)
       → (n : ℕ) → Patches m rank describedAt (take n (drop describedAt image)) time m′ o → length image ≤ n + describedAt → Describes m rank id payload time m′ o
   unfolding andThen
-  described t image l k m′ o n p b s h x z q =
-      let w = subst (λ (u : List ℕ). Patches m rank describedAt u time m′ o) (take-all n (drop describedAt image) (omega (arith, length-drop describedAt image))) p in
+  described t image l k m′ o n w b topic retained p q s j =
+      let h = subst (λ (u : List ℕ). Patches m rank describedAt u time m′ o) (take-all n (drop describedAt image) (omega (arith, length-drop describedAt image))) w in
+      let x = sent time topic retained payload in
       let y = describedIn payload (ws payload 0) in
       let g = is-taken id payload d e t in
-      w s h (omega (arith, length-drop describedAt image)) (withDescription (some (newDescription y))) (imprint.makes id payload image d y e g k) x z (q ∙ ap (λ (a : Answer Described). andThen a new) g)
+      h s (j .fits) (omega (arith, length-drop describedAt image)) (withDescription (some (newDescription y))) (imprint.makes id payload image d y e g k) x refl (by-description x p (gives y) refl q g j)
 
--- ---- a verdict obeyed
+-- ---- the verdict on a message
 
-module _ (m : List ℕ) (x : Message) (v : Verdict) (s : Sound m) (j : Verdicts m x v) (m′ : List ℕ) (o : Answer Value) where
-  says : (w : Verdict) → v ≡ w → obeyed (openingOf m .domain) (openingOf m .devices) (means m .now) x ≡ makes x (devicesIn m) w
-  says w e = sym (j .says) ∙ ap (makes x (devicesIn m)) e
+module _ (m : List ℕ) (x : Message) (v : Verdict) (s : Sound m) (j : Verdicts m x v) where
+  pub carried : (m′ : List ℕ) (o : Answer Value) (w : Verdict) → v ≡ w → Obeys m x w m′ o → Did (message x) m m′ o
+  carried m′ o w e h = h s (subst (Verdicts m x) e j)
 
-  fits : (w : Verdict) → v ≡ w → Fits (openingOf m .devices) x (devicesIn m) w
-  fits w e = subst (Fits (openingOf m .devices) x (devicesIn m)) e (j .fits)
-
-  pub do-keep : v ≡ verdict.Time → Keeps m (x .time) m′ o → Did (message x) m m′ o
+  pub not-carried : (n : ℕ) → v ≡ verdict.Refused n → Did (message x) m m (refused n)
   unfolding makes
-  do-keep e w = w s x refl (says verdict.Time e)
-
-  pub do-remove : (r : ℕ) → v ≡ verdict.Remove r → Removes m r (x .time) m′ o → Did (message x) m m′ o
-  unfolding makes
-  do-remove r e w = w s (fits (verdict.Remove r) e) x refl (says (verdict.Remove r) e)
-
-  pub do-state : (r : ℕ) (t : DeviceState) → v ≡ verdict.State r t → Changes m r (withState t (x .time)) (x .time) m′ o → Did (message x) m m′ o
-  unfolding makes
-  do-state r t e w = w s (fits (verdict.State r t) e) x refl (says (verdict.State r t) e)
-
-  pub do-create : (r : ℕ) (t : DeviceState) (id : Place) (b : List ℕ) → b ≡ bytesAt (x .topic) id → v ≡ verdict.Create r t id → Creates m r b t (x .time) m′ o → Did (message x) m m′ o
-  unfolding makes
-  do-create r t id b q e w = let f = fits (verdict.Create r t id) e in subst (λ (i : List ℕ). Creates m r i t (x .time) m′ o) q w s (f .0) (f .1) (f .2) x refl (says (verdict.Create r t id) e)
-
-  pub do-undescribe : (r : ℕ) → v ≡ verdict.Undescribe r → Changes m r (withDescription none) (x .time) m′ o → Did (message x) m m′ o
-  unfolding makes
-  do-undescribe r e w = w s (fits (verdict.Undescribe r) e) x refl (says (verdict.Undescribe r) e)
-
-  pub do-describe : (r : ℕ) (id : Place) (b : List ℕ) → b ≡ bytesAt (x .topic) id → v ≡ verdict.Describe r id → Describes m r b (x .payload) (x .time) m′ o → Did (message x) m m′ o
-  unfolding makes
-  do-describe r id b q e w = subst (λ (i : List ℕ). Describes m r i (x .payload) (x .time) m′ o) q w s (fits (verdict.Describe r id) e) x refl (says (verdict.Describe r id) e)
-
-  pub do-fill : (r i : ℕ) (kind : LaneKind) → v ≡ verdict.Lane r i kind → Fills m r i kind (x .payload) (x .time) m′ o → Did (message x) m m′ o
-  unfolding makes held heldBy
-  do-fill r i kind e w = let f = fits (verdict.Lane r i kind) e in w (f .1) (f .2) s (f .0) x refl (says (verdict.Lane r i kind) e)
-
-pub do-refuse : (m : List ℕ) (x : Message) (v : Verdict) → Sound m → Verdicts m x v → (n : ℕ) → v ≡ verdict.Refused n → Did (message x) m m (refused n)
-unfolding makes
-do-refuse m x v s j n e = refuses m x n s (sym (j .says) ∙ ap (makes x (devicesIn m)) e)
+  not-carried n e = refuses m x n s (sym (j .says) ∙ ap (makes x (devicesIn m)) e)

@@ -58,12 +58,12 @@ pub fn message(mem: &mut [u8], time: u64, topic: &[u8], retained: bool, payload:
         Verdict::Remove { rank } => remove(mem, rank, time),
         Verdict::State { rank, state: s } => set_state(mem, rank, s, time),
         Verdict::Create { rank, state: s, id } => {
-            let own = fields::slice(topic, id.start, id.end);
+            let own = text::slice(topic, id.start, id.end);
             create(mem, rank, own, s, time)
         }
         Verdict::Undescribe { rank } => undescribe(mem, rank, time),
         Verdict::Describe { rank, id } => {
-            let own = fields::slice(topic, id.start, id.end);
+            let own = text::slice(topic, id.start, id.end);
             describe(mem, rank, own, payload, time)
         }
         Verdict::Lane {

@@ -1,16 +1,12 @@
 // What a verdict says, written: one change of one room.
-ghost use mathlib.Core.Option.{none};
-ghost use Rattle.rules.specs.Messages.{withState, withDescription};
 ghost use Rattle.table.specs.Outcome.{said};
-ghost use Rattle.table.specs.Parts.{Writes, Patches, Changes, Keeps, Removes, Creates, Fills, Describes};
+ghost use Rattle.verdict.specs.declared.Verdict.the-variants.{Time, Remove, State, Undescribe};
+ghost use Rattle.table.specs.Parts.{Carries, Fills, Creates, Describes, Patches, Writes};
 use crate::Outcome;
+use device::DESCRIBED;
+use device::STATE;
 use rules::DeviceState;
 use rules::LaneKind;
-
-// Where the state and the description stand in a room: see crate device, specs/Layout.antt.
-const STATE: usize = 33;
-
-const DESCRIBED: usize = 42;
 
 // A change, with the number of devices and the last time after it.
 fn write(mem: &mut [u8], from: u8, to: u8, n: u8, offset: usize, bytes: &[u8], time: u64) -> Outcome
@@ -34,7 +30,7 @@ pub(crate) fn patch(mem: &mut [u8], rank: u8, offset: usize, bytes: &[u8], time:
 
 // The time alone.
 pub(crate) fn keep(mem: &mut [u8], time: u64) -> Outcome
-    ensures { λ r. ⌜ Keeps (now (mem .entry)) time (now (mem .exit)) (said r) ⌝ }
+    ensures { λ r. ⌜ Carries (now (mem .entry)) time Time (now (mem .exit)) (said r) ⌝ }
 {
     let n = lookup::count(mem);
     let bytes = [0u8; 0];
@@ -43,7 +39,7 @@ pub(crate) fn keep(mem: &mut [u8], time: u64) -> Outcome
 
 // "empty payload removes it and frees its room for any other"
 pub(crate) fn remove(mem: &mut [u8], rank: u8, time: u64) -> Outcome
-    ensures { λ r. ⌜ Removes (now (mem .entry)) rank time (now (mem .exit)) (said r) ⌝ }
+    ensures { λ r. ⌜ Carries (now (mem .entry)) time (Remove rank) (now (mem .exit)) (said r) ⌝ }
 {
     let n = lookup::count(mem);
     if n == 0 {
@@ -56,7 +52,7 @@ pub(crate) fn remove(mem: &mut [u8], rank: u8, time: u64) -> Outcome
 }
 
 pub(crate) fn set_state(mem: &mut [u8], rank: u8, s: DeviceState, time: u64) -> Outcome
-    ensures { λ r. ⌜ Changes (now (mem .entry)) rank (withState s time) time (now (mem .exit)) (said r) ⌝ }
+    ensures { λ r. ⌜ Carries (now (mem .entry)) time (State rank s) (now (mem .exit)) (said r) ⌝ }
 {
     let bytes = patch::state(s, time);
     patch(mem, rank, STATE, &bytes, time)
@@ -75,7 +71,7 @@ pub(crate) fn create(mem: &mut [u8], rank: u8, id: &[u8], s: DeviceState, time: 
 }
 
 pub(crate) fn undescribe(mem: &mut [u8], rank: u8, time: u64) -> Outcome
-    ensures { λ r. ⌜ Changes (now (mem .entry)) rank (withDescription none) time (now (mem .exit)) (said r) ⌝ }
+    ensures { λ r. ⌜ Carries (now (mem .entry)) time (Undescribe rank) (now (mem .exit)) (said r) ⌝ }
 {
     let bytes = patch::no_description();
     patch(mem, rank, DESCRIBED, &bytes, time)

@@ -33,6 +33,6 @@ id-char = record { is = in-char; one = one-char }
 
 pub isId-is : (s : List ℕ) → (isId s ≡ true) ↔ (s ∈ ID)
 isId-is s = (
-  (λ e. let i = is-id s e in repeat-in idByte _ id-char 1 31 s (record { least = i .some; most = i .few; all = i .all })),
-  (λ w. let r = repeat-out idByte _ id-char 1 31 w in id-sized s (r .least) (r .most) ∙ r .all),
+  (λ e. let i = is-id s e in repeat-in idByte _ id-char 1 32 s (record { least = i .some; most = i .few; all = i .all })),
+  (λ w. let r = repeat-out idByte _ id-char 1 32 (omega arith) w in id-sized s (r .least) (r .most) ∙ r .all),
 )

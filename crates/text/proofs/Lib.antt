@@ -1,4 +1,5 @@
 pub mod Bytes
+pub mod Slices
 pub mod Order
 pub mod Split
 pub mod Joins

@@ -11,7 +11,7 @@ use lib.ListN.{length, take, drop, getD, length-drop}
 use lib.Seq.{drop-cons, drop-length, drop-drop}
 use borrow.Author.Tests.{le-leb, lt-leb, eq-eqb, ne-eqb, leb-true, leb-false, lt-ltb, le-ltb}
 use Rattle.text.specs.declared.Part.the-variants.{Found, Nothing}
-use Rattle.text.specs.Bytes.{part}
+use Rattle.text.specs.Bytes.{slice}
 use Rattle.text.specs.Split.{split, onto, firstLen, partAt}
 
 module _ (sep : ℕ) (s : List ℕ) (e : ℕ) where
@@ -89,19 +89,19 @@ split-first sep (b ∷ s) = pick (eqb b sep) (split-first sep s)
     pick false h = rw (h, leb·suc-suc)
 
 -- the part that stands between the two places is the first of what starts there
-pub part-is : (sep : ℕ) (t : List ℕ) (at s e n : ℕ) → IsPart sep t at s e n → part t s e ≡ take (firstLen sep (drop at t)) (drop at t)
+pub part-is : (sep : ℕ) (t : List ℕ) (at s e n : ℕ) → IsPart sep t at s e n → slice t s e ≡ take (firstLen sep (drop at t)) (drop at t)
 part-is sep t at s e n p = rw (p .start, p .end, add-sub-cancel-left)
 
 -- a found part stands first in the splitting of what starts there, and the splitting goes on at `next`
 module _ (sep : ℕ) (t : List ℕ) (at s e n : ℕ) (p : IsPart sep t at s e n) where
-  pub split-more : n ≤ length t → split sep (drop at t) ≡ part t s e ∷ split sep (drop n t)
+  pub split-more : n ≤ length t → split sep (drop at t) ≡ slice t s e ∷ split sep (drop n t)
   unfolding others
   split-more h =
       let f = firstLen sep (drop at t) in
       let k : at + suc f ≡ n = omega (arith, p .next, p .end) in
       split-first sep (drop at t) ∙ rw (part-is sep t at s e n p, lt-ltb f (length (drop at t)) (omega (arith, length-drop at t)), drop-drop (suc f) at t, k)
 
-  pub split-last : length t < n → split sep (drop at t) ≡ part t s e ∷ []
+  pub split-last : length t < n → split sep (drop at t) ≡ slice t s e ∷ []
   unfolding others
   split-last h =
       let f = firstLen sep (drop at t) in

@@ -6,7 +6,7 @@ use mathlib.Core.List.{List, [], _∷_}
 use mathlib.Core.Bool.{true, false}
 use lib.ListN.{length, drop, replicate}
 use Rattle.abnf.specs.Abnf.{_∈_}
-use Rattle.text.specs.Bytes.{eqBytes, lessBytes, every, part, Compared}
+use Rattle.text.specs.Bytes.{eqBytes, lessBytes, every, slice, Compared}
 use Rattle.text.specs.Split.{split, joinBy, partAt, AllFree, Splits}
 use Rattle.text.specs.Scalars.{Encoding}
 use Rattle.text.specs.declared.Part.the-variants.{Found}
@@ -33,11 +33,7 @@ ids = isId-is
 pub read-gives : (s : List ℕ) → isId s ≡ true → idBytes (readId s .id) ≡ s
 read-gives = read-back
 
--- the paper's example `-a-`; 32 bytes, and 33; a capital letter; none
-pub id-hyphens : isId (0x2D ∷ 0x61 ∷ 0x2D ∷ []) ≡ true
-unfolding isId idByte every
-id-hyphens = refl
-
+-- 32 bytes, and 33; a capital letter; none
 pub id-32 : isId (replicate 32 0x61) ≡ true
 unfolding isId idByte every
 id-32 = refl
@@ -63,10 +59,10 @@ pub joining : (sep : ℕ) (p : List ℕ) (ps : List (List ℕ)) → AllFree sep 
 joining = split-join
 
 -- the part that starts at a place is the first of the parts from there on, and the others start at `next`; past the end there are no others
-pub next-part : (sep : ℕ) (t : List ℕ) (at s e n : ℕ) → Found s e n ≡ partAt sep t at → n ≤ length t → split sep (drop at t) ≡ part t s e ∷ split sep (drop n t)
+pub next-part : (sep : ℕ) (t : List ℕ) (at s e n : ℕ) → Found s e n ≡ partAt sep t at → n ≤ length t → split sep (drop at t) ≡ slice t s e ∷ split sep (drop n t)
 next-part sep t at s e n q = split-more sep t at s e n (is-part sep t at s e n q)
 
-pub last-part : (sep : ℕ) (t : List ℕ) (at s e n : ℕ) → Found s e n ≡ partAt sep t at → length t < n → split sep (drop at t) ≡ part t s e ∷ []
+pub last-part : (sep : ℕ) (t : List ℕ) (at s e n : ℕ) → Found s e n ≡ partAt sep t at → length t < n → split sep (drop at t) ≡ slice t s e ∷ []
 last-part sep t at s e n q = split-last sep t at s e n (is-part sep t at s e n q)
 
 -- ---- equality

@@ -24,8 +24,8 @@ pub data Compared : Bool → Bool → Bool → Type 0 where
   after : Compared false false true
 
 -- the bytes from a place up to another
-abbrev pub part : List ℕ → ℕ → ℕ → List ℕ
-part s a e = take (e - a) (drop a s)
+abbrev pub slice : List ℕ → ℕ → ℕ → List ℕ
+slice s a e = take (e - a) (drop a s)
 
 -- each byte passes the test
 unfoldable pub every : (ℕ → Bool) → List ℕ → Bool

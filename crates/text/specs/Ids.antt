@@ -11,19 +11,22 @@ use Rattle.text.specs.declared.Id.{Id}
 use Rattle.text.specs.declared.IdRead.{IdRead}
 
 -- Paper 01, "Topics": "An ID is 1 to 32 bytes [..] of `a`-`z`, `0`-`9`, `-`; a hyphen may stand first or last [..]."
+abbrev pub idMost : ℕ
+idMost = 32
+
 unfoldable pub idByte : ℕ → Bool
 idByte b = inRange 0x61 0x7A b || (inRange 0x30 0x39 b || eqb b 0x2D)
 
 unfoldable pub isId : List ℕ → Bool
-isId s = leb 1 (length s) && (leb (length s) 32 && every idByte s)
+isId s = leb 1 (length s) && (leb (length s) idMost && every idByte s)
 
 -- the same as a grammar: 1*32( %x61-7A / %x30-39 / "-" )
 abbrev pub ID : Abnf ⊥
-ID = repeat 1 31 (0x61 – 0x7A / 0x30 – 0x39 / x 0x2D)
+ID = repeat 1 idMost (0x61 – 0x7A / 0x30 – 0x39 / x 0x2D)
 
--- an ID by value: its bytes, with zeros up to 32
+-- an ID by value: its bytes, with zeros up to `idMost`
 unfoldable pub idOf : List ℕ → Id
-idOf s = record { bytes = s ++ replicate (32 - length s) 0; len = length s }
+idOf s = record { bytes = s ++ replicate (idMost - length s) 0; len = length s }
 
 -- the bytes of such a value
 unfoldable pub idBytes : Id → List ℕ

@@ -1,5 +1,6 @@
 pub mod Ascii
 pub mod Bytes
+pub mod Places
 pub mod Split
 pub mod Ids
 pub mod Parts

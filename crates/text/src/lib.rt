@@ -1,6 +1,6 @@
-// Byte strings: comparing, splitting, IDs, UTF-8.
+// Byte strings: comparing, places, splitting, IDs, UTF-8.
 ghost use mathlib.Core.Path.{_≡_};
-ghost use Rattle.text.specs.Bytes.{eqBytes, lessBytes};
+ghost use Rattle.text.specs.Bytes.{eqBytes, lessBytes, slice};
 ghost use Rattle.text.specs.Split.{partAt};
 ghost use Rattle.text.specs.Ids.{idByte, isId, readId};
 ghost use mathlib.Core.Logic.{_↔_};
@@ -46,6 +46,28 @@ pub fn precedes(a: &[u8], b: &[u8]) -> bool
         }
         i += 1;
     }
+}
+
+// The bytes `start..end` of a byte string.
+pub struct Place {
+    pub start: usize,
+    pub end: usize,
+}
+
+// The bytes from a place up to another, as far as there are any.
+pub fn slice(s: &[u8], a: usize, e: usize) -> &[u8]
+    ensures { λ r. ⌜ now r ≡ slice (now (s .entry)) a e ⌝ }
+{
+    if e < a {
+        return &s[..0];
+    }
+    if e <= s.len() {
+        return &s[a..e];
+    }
+    if a <= s.len() {
+        return &s[a..];
+    }
+    &s[..0]
 }
 
 // A part between separators: its bytes are `start..end`, and the next part starts at `next`.

@@ -142,7 +142,7 @@ starts-ending s =
     let k : List ℕ → Bool = starts (opt zone) isEmpty in
     let n = digits 9 (drop 20 s) in
     let f : starts fraction k (drop 19 s) ≡ (eqb (byteAt s 19) 46 && (not (eqb n 0) && k (drop n (drop 20 s)))) =
-    starts-x (λ r. starts (repeat 1 8 DIGIT) k r) s 19 46 (lit< tt) ∙ and-on (eqb (byteAt s 19) 46) (starts-run 8 k zone-no-digit (drop 20 s)) in
+    starts-x (λ r. starts (repeat 1 9 DIGIT) k r) s 19 46 (lit< tt) ∙ and-on (eqb (byteAt s 19) 46) (starts-run 8 k zone-no-digit (drop 20 s)) in
     starts-opt fraction k (drop 19 s)
     ∙ cc (f, starts-zone s 19, ap k (lib.Seq.drop-drop n 20 s), starts-zone s (20 + n))
     ∙ fit (eqb (byteAt s 19) 46) (not (eqb n 0) && zoneAt s (20 + n)) (zoneAt s 19) (λ e. zone-no-dot s 19 (eqb-true (byteAt s 19) 46 e))

@@ -12,7 +12,7 @@ use Rattle.abnf.specs.Accepts.{inRange, isEmpty, starts, accepts}
 use Rattle.abnf.proofs.Accepts.{and-both}
 use Rattle.abnf.proofs.Steps.{both, range-true, below-range, starts-x, starts-either, starts-opt, empty-at}
 use Rattle.times.specs.Datetime.{DIGIT}
-use Rattle.times.specs.Duration.{span, hours, minutes, seconds, duration, isDuration}
+use Rattle.times.specs.Duration.{amount, hours, minutes, seconds, duration, isDuration}
 use Rattle.times.specs.Parts.{byteAt, digits, spanEnd}
 use Rattle.times.proofs.Bytes.{byte-past, digits-most}
 use Rattle.times.proofs.Chains.{none, some}
@@ -59,7 +59,7 @@ x-no-digit : (letter : ℕ) → 57 < letter → (k : List ℕ → Bool) → NoDi
 unfolding starts
 x-no-digit letter h k b r e = let q = range-true 48 57 b e in rw (below-range letter letter b (omega arith), starts)
 
-starts-span : (letter : ℕ) → 57 < letter → letter < 256 → (k : List ℕ → Bool) (s : List ℕ) (at : ℕ) → starts (span letter) k (drop at s) ≡ (there s at letter && k (drop (spanEnd s at letter) s))
+starts-span : (letter : ℕ) → 57 < letter → letter < 256 → (k : List ℕ → Bool) (s : List ℕ) (at : ℕ) → starts (amount letter) k (drop at s) ≡ (there s at letter && k (drop (spanEnd s at letter) s))
 unfolding starts there
 starts-span letter h g k s at =
     let n = digits 9 (drop at s) in
@@ -100,20 +100,20 @@ or-of {t} {u} {v} {w} e f = ap (λ (b : Bool). b || u) e ∙ ap (λ (b : Bool). 
 
 module _ (s : List ℕ) where
   -- an optional span before the end of the text
-  ends : (at letter : ℕ) → 57 < letter → letter < 256 → starts (opt (span letter)) isEmpty (drop at s) ≡ leb (length s) (spanEnd s at letter)
+  ends : (at letter : ℕ) → 57 < letter → letter < 256 → starts (opt (amount letter)) isEmpty (drop at s) ≡ leb (length s) (spanEnd s at letter)
   ends at letter h g =
-      starts-opt (span letter) isEmpty (drop at s)
+      starts-opt (amount letter) isEmpty (drop at s)
       ∙ or-of (starts-span letter h g isEmpty s at ∙ and-on (there s at letter) (empty-at s (spanEnd s at letter))) (empty-at s at)
       ∙ both (there s at letter)
       (λ e. rw (e, more-there s at letter g e) (or-false (leb (length s) (spanEnd s at letter))))
       (λ e. rw (e, end-none s at letter e))
 
   -- the same before another optional span
-  ends-two : (at l m : ℕ) → 57 < l → l < 256 → 57 < m → m < 256 → (l ≡ m → ⊥) → starts (opt (span l) · opt (span m)) isEmpty (drop at s) ≡ leb (length s) (spanEnd s (spanEnd s at l) m)
+  ends-two : (at l m : ℕ) → 57 < l → l < 256 → 57 < m → m < 256 → (l ≡ m → ⊥) → starts (opt (amount l) · opt (amount m)) isEmpty (drop at s) ≡ leb (length s) (spanEnd s (spanEnd s at l) m)
   unfolding starts
   ends-two at l m hl gl hm gm d =
-      starts-opt (span l) (starts (opt (span m)) isEmpty) (drop at s)
-      ∙ or-of (starts-span l hl gl (starts (opt (span m)) isEmpty) s at ∙ and-on (there s at l) (ends (spanEnd s at l) m hm gm)) (ends at m hm gm)
+      starts-opt (amount l) (starts (opt (amount m)) isEmpty) (drop at s)
+      ∙ or-of (starts-span l hl gl (starts (opt (amount m)) isEmpty) s at ∙ and-on (there s at l) (ends (spanEnd s at l) m hm gm)) (ends at m hm gm)
       ∙ both (there s at l)
       (λ e.
       let z : leb (length s) (spanEnd s at m) ≡ false = ap (λ (n : ℕ). leb (length s) n) (end-none s at m (other-letter s at l m d e)) ∙ more-there s at l gl e in

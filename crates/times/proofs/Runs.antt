@@ -32,11 +32,14 @@ starts-upTo (suc n) k h (b ∷ s) = go (inRange 48 57 b) refl (starts-upTo n k h
     go true e i = or-none (starts (upTo n DIGIT) k s) (k (b ∷ s)) (k (drop (digits n s) s)) i (h b s e)
     go false e i = refl
 
-pub starts-run : (n : ℕ) (k : List ℕ → Bool) → NoDigit k → (s : List ℕ) → starts (repeat 1 n DIGIT) k s ≡ (not (eqb (digits (suc n) s) 0) && k (drop (digits (suc n) s) s))
+run : (n : ℕ) (k : List ℕ → Bool) → NoDigit k → (s : List ℕ) → starts (times 1 DIGIT · upTo n DIGIT) k s ≡ (not (eqb (digits (suc n) s) 0) && k (drop (digits (suc n) s) s))
 unfolding starts digits
-starts-run n k h [] = refl
-starts-run n k h (b ∷ s) = go (inRange 48 57 b)
+run n k h [] = refl
+run n k h (b ∷ s) = go (inRange 48 57 b)
   where
     go : (t : Bool) → elim t as (λ x. Bool) [ true ↦ starts (upTo n DIGIT) k s | false ↦ false ] ≡ (not (eqb (cond t (suc (digits n s)) 0) 0) && k (drop (cond t (suc (digits n s)) 0) (b ∷ s)))
     go true = rw (ne-eqb (suc (digits n s)) 0 (λ e. omega arith)) (starts-upTo n k h s)
     go false = refl
+
+pub starts-run : (n : ℕ) (k : List ℕ → Bool) → NoDigit k → (s : List ℕ) → starts (repeat 1 (suc n) DIGIT) k s ≡ (not (eqb (digits (suc n) s) 0) && k (drop (digits (suc n) s) s))
+starts-run n k h s = let e : suc n - 1 ≡ n = omega arith in ap (λ (m : ℕ). starts (times 1 DIGIT · upTo m DIGIT) k s) e ∙ run n k h s

@@ -28,7 +28,7 @@ clock = hour · x 58 · sixtieth
 
 -- "optional `.` and 1 to 9 digits"
 abbrev pub fraction : Abnf ⊥
-fraction = x 46 · repeat 1 8 DIGIT
+fraction = x 46 · repeat 1 9 DIGIT
 
 -- "`Z` or sign `HH:MM`", "the offset's hour and minute likewise"
 abbrev pub zone : Abnf ⊥

@@ -7,17 +7,17 @@ use Rattle.abnf.specs.Accepts.{accepts}
 use Rattle.times.specs.Datetime.{DIGIT}
 
 -- 1 to 9 digits and a letter
-abbrev pub span : ℕ → Abnf ⊥
-span letter = repeat 1 8 DIGIT · x letter
+abbrev pub amount : ℕ → Abnf ⊥
+amount letter = repeat 1 9 DIGIT · x letter
 
 abbrev pub hours : Abnf ⊥
-hours = span 72
+hours = amount 72
 
 abbrev pub minutes : Abnf ⊥
-minutes = span 77
+minutes = amount 77
 
 abbrev pub seconds : Abnf ⊥
-seconds = span 83
+seconds = amount 83
 
 abbrev pub duration : Abnf ⊥
 duration = x 80 · x 84 · (hours · opt minutes · opt seconds / minutes · opt seconds / seconds)

@@ -8,20 +8,22 @@ use lib.ListN.{length, drop, length-take, length-drop}
 use lib.Seq.{drop-cons}
 use native.Mathlib.Nat.{sub-self}
 use native.Mathlib.Numerals.{add-one}
+use Rattle.text.proofs.Slices.{slice-length}
 use Rattle.text.proofs.Split.{is-none}
 use Rattle.answer.specs.Answer.{Answer, refused, gives, require}
 use Rattle.text.specs.declared.Part.the-variants.{Found, Nothing}
-use Rattle.text.specs.Bytes.{eqBytes, part}
+use Rattle.text.specs.Bytes.{eqBytes, slice}
 use Rattle.text.specs.Split.{split, partAt}
 use Rattle.text.specs.Ids.{isId}
 use Rattle.text.proofs.Bytes.{eqBytes-true}
-use Rattle.topic.specs.declared.Place.{Place}
+use Rattle.text.specs.declared.Place.{Place}
 use Rattle.topic.specs.declared.Topic.{Topic}
 use Rattle.topic.specs.declared.Topic.the-variants.{Refused, State, Description, Value, Set, Target, Alert, Log, Broadcast, Other}
 use Rattle.topic.specs.Words.{slash, five, $state, $description, setWord, $target, $alert, $log, $broadcast, logLevels, reserved}
 use Rattle.topic.specs.Form.{Form, alert, log, other}
 use Rattle.topic.specs.Topics.{oneOf, dollarId, otherWord, filled, fits, end, each, when_give_else_, level, formOf, readLevels, readTopic}
-use Rattle.topic.specs.Meaning.{bytesAt, levelsIn, meaning, Within, Shows, restOf}
+use Rattle.text.specs.Places.{bytesAt, Within}
+use Rattle.topic.specs.Meaning.{levelsIn, meaning, Shows, restOf}
 use Rattle.topic.specs.Parts.{levelsFrom, Next, IdAt, WordAt}
 use Rattle.topic.proofs.Levels.{levels-here, levels-past, levels-more, levels-none, found, levels-step, part-rest}
 use Rattle.topic.proofs.Rows.{free, no-levels, no-device, broadcast-row, broadcast-bad, broadcast-none, device-alone, node-alone, node-bad, value-row, set-row, target-row, property-bad, property-long, state-fits, description-fits, alert-fits, log-fits, other-fits}
@@ -41,10 +43,10 @@ ends t at s e n q h = let p = found t at s e n q in omega (arith, p .next, p .wi
 
 -- a found part that is an ID, and one that is none
 module _ (t : List ℕ) (at s e n : ℕ) (q : Found s e n ≡ partAt slash t at) where
-  pub id-at : isId (part t s e) ≡ true → IdAt t (record { start = s; end = e })
+  pub id-at : isId (slice t s e) ≡ true → IdAt t (record { start = s; end = e })
   id-at h = record { within = placed t at s e n q; id = h }
 
-  pub word-at : isId (part t s e) ≡ false → WordAt t (record { start = s; end = e })
+  pub word-at : isId (slice t s e) ≡ false → WordAt t (record { start = s; end = e })
   word-at h = record { within = placed t at s e n q; noId = h }
 
   -- it begins where it was looked for, and what follows begins behind it
@@ -80,19 +82,19 @@ module _ (t d : List ℕ) (at b : ℕ) (w : List ℕ) (test : List ℕ → Bool)
   one-none q = refuse t 9 _ (row (levelsFrom t at) ∙ rw (levels-none t at q))
 
   module _ (s e n : ℕ) (q : Found s e n ≡ partAt slash t at) where
-    one-fits : formOf (d ∷ w ∷ levelsFrom t at) ≡ (when (test (part t s e) && end (levelsFrom t n)) give make (part t s e) else refused 9)
+    one-fits : formOf (d ∷ w ∷ levelsFrom t at) ≡ (when (test (slice t s e) && end (levelsFrom t n)) give make (slice t s e) else refused 9)
     unfolding fits
     one-fits = row (levelsFrom t at) ∙ rw (levels-step t at s e n q)
 
     pub one-long : n ≤ length t → Shows t b (formOf (d ∷ w ∷ levelsFrom t at)) (Refused 9)
     unfolding when_give_else_
-    one-long h = refuse t 9 _ (one-fits ∙ rw (levels-more t n h, and-false (test (part t s e))))
+    one-long h = refuse t 9 _ (one-fits ∙ rw (levels-more t n h, and-false (test (slice t s e))))
 
-    pub one-bad : test (part t s e) ≡ false → Shows t b (formOf (d ∷ w ∷ levelsFrom t at)) (Refused 9)
+    pub one-bad : test (slice t s e) ≡ false → Shows t b (formOf (d ∷ w ∷ levelsFrom t at)) (Refused 9)
     unfolding when_give_else_
     one-bad h = refuse t 9 _ (one-fits ∙ rw h)
 
-    pub one-row : length t < n → test (part t s e) ≡ true → formOf (d ∷ w ∷ levelsFrom t at) ≡ gives (make (part t s e))
+    pub one-row : length t < n → test (slice t s e) ≡ true → formOf (d ∷ w ∷ levelsFrom t at) ≡ gives (make (slice t s e))
     unfolding when_give_else_ end
     one-row h k = one-fits ∙ rw (k, levels-past t n h)
 
@@ -108,10 +110,10 @@ module _ (t : List ℕ) (d : Place) (at : ℕ) (i : IdAt t d) where
     pub alert-long : n ≤ length t → Shows t (d .start) (formOf (bytesAt t d ∷ $alert ∷ levelsFrom t at)) (Refused 9)
     alert-long = one-long t (bytesAt t d) at (d .start) $alert isId (alert (bytesAt t d)) (alert-fits (bytesAt t d) (i .id)) s e n q
 
-    pub alert-bad : isId (part t s e) ≡ false → Shows t (d .start) (formOf (bytesAt t d ∷ $alert ∷ levelsFrom t at)) (Refused 9)
+    pub alert-bad : isId (slice t s e) ≡ false → Shows t (d .start) (formOf (bytesAt t d ∷ $alert ∷ levelsFrom t at)) (Refused 9)
     alert-bad = one-bad t (bytesAt t d) at (d .start) $alert isId (alert (bytesAt t d)) (alert-fits (bytesAt t d) (i .id)) s e n q
 
-    pub alert-yes : length t < n → isId (part t s e) ≡ true → Shows t (d .start) (formOf (bytesAt t d ∷ $alert ∷ levelsFrom t at)) (Alert d (record { start = s; end = e }))
+    pub alert-yes : length t < n → isId (slice t s e) ≡ true → Shows t (d .start) (formOf (bytesAt t d ∷ $alert ∷ levelsFrom t at)) (Alert d (record { start = s; end = e }))
     unfolding meaning
     alert-yes h k = record {
       says = sym (one-row t (bytesAt t d) at (d .start) $alert isId (alert (bytesAt t d)) (alert-fits (bytesAt t d) (i .id)) s e n q h k);
@@ -122,10 +124,10 @@ module _ (t : List ℕ) (d : Place) (at : ℕ) (i : IdAt t d) where
     pub log-long : n ≤ length t → Shows t (d .start) (formOf (bytesAt t d ∷ $log ∷ levelsFrom t at)) (Refused 9)
     log-long = one-long t (bytesAt t d) at (d .start) $log (oneOf logLevels) (log (bytesAt t d)) (log-fits (bytesAt t d) (i .id)) s e n q
 
-    pub log-bad : oneOf logLevels (part t s e) ≡ false → Shows t (d .start) (formOf (bytesAt t d ∷ $log ∷ levelsFrom t at)) (Refused 9)
+    pub log-bad : oneOf logLevels (slice t s e) ≡ false → Shows t (d .start) (formOf (bytesAt t d ∷ $log ∷ levelsFrom t at)) (Refused 9)
     log-bad = one-bad t (bytesAt t d) at (d .start) $log (oneOf logLevels) (log (bytesAt t d)) (log-fits (bytesAt t d) (i .id)) s e n q
 
-    pub log-yes : length t < n → oneOf logLevels (part t s e) ≡ true → Shows t (d .start) (formOf (bytesAt t d ∷ $log ∷ levelsFrom t at)) (Log d (record { start = s; end = e }))
+    pub log-yes : length t < n → oneOf logLevels (slice t s e) ≡ true → Shows t (d .start) (formOf (bytesAt t d ∷ $log ∷ levelsFrom t at)) (Log d (record { start = s; end = e }))
     unfolding meaning
     log-yes h k = record {
       says = sym (one-row t (bytesAt t d) at (d .start) $log (oneOf logLevels) (log (bytesAt t d)) (log-fits (bytesAt t d) (i .id)) s e n q h k);
@@ -139,10 +141,10 @@ module _ (t : List ℕ) (d n : Place) (at : ℕ) (i : IdAt t d) (j : IdAt t n) w
   node-none q = refuse t 9 _ (rw (levels-none t at q) (node-alone (bytesAt t d) (i .id) (bytesAt t n) (j .id)))
 
   module _ (s e m : ℕ) (q : Found s e m ≡ partAt slash t at) where
-    pub node-no : isId (part t s e) ≡ false → Shows t (d .start) (formOf (bytesAt t d ∷ bytesAt t n ∷ levelsFrom t at)) (Refused 9)
-    node-no h = refuse t 9 _ (rw (levels-step t at s e m q) (node-bad (bytesAt t d) (i .id) (bytesAt t n) (j .id) (part t s e) (levelsFrom t m) h))
+    pub node-no : isId (slice t s e) ≡ false → Shows t (d .start) (formOf (bytesAt t d ∷ bytesAt t n ∷ levelsFrom t at)) (Refused 9)
+    node-no h = refuse t 9 _ (rw (levels-step t at s e m q) (node-bad (bytesAt t d) (i .id) (bytesAt t n) (j .id) (slice t s e) (levelsFrom t m) h))
 
-    pub node-next : (r : Topic) → Shows t (d .start) (formOf (bytesAt t d ∷ bytesAt t n ∷ part t s e ∷ levelsFrom t m)) r → Shows t (d .start) (formOf (bytesAt t d ∷ bytesAt t n ∷ levelsFrom t at)) r
+    pub node-next : (r : Topic) → Shows t (d .start) (formOf (bytesAt t d ∷ bytesAt t n ∷ slice t s e ∷ levelsFrom t m)) r → Shows t (d .start) (formOf (bytesAt t d ∷ bytesAt t n ∷ levelsFrom t at)) r
     node-next r h = rw (levels-step t at s e m q) h
 
 -- a property
@@ -157,27 +159,27 @@ module _ (t : List ℕ) (d n p : Place) (at : ℕ) (i : IdAt t d) (j : IdAt t n)
 
   module _ (s e m : ℕ) (q : Found s e m ≡ partAt slash t at) where
     pub property-more : m ≤ length t → Shows t (d .start) (formOf (bytesAt t d ∷ bytesAt t n ∷ bytesAt t p ∷ levelsFrom t at)) (Refused 9)
-    property-more h = refuse t 9 _ (rw (levels-step t at s e m q) (property-long (bytesAt t d) (i .id) (bytesAt t n) (j .id) (bytesAt t p) (k .id) (part t s e) (levelsFrom t m) (levels-more t m h)))
+    property-more h = refuse t 9 _ (rw (levels-step t at s e m q) (property-long (bytesAt t d) (i .id) (bytesAt t n) (j .id) (bytesAt t p) (k .id) (slice t s e) (levelsFrom t m) (levels-more t m h)))
 
-    pub property-no : eqBytes (part t s e) setWord ≡ false → eqBytes (part t s e) $target ≡ false → Shows t (d .start) (formOf (bytesAt t d ∷ bytesAt t n ∷ bytesAt t p ∷ levelsFrom t at)) (Refused 9)
-    property-no f g = refuse t 9 _ (rw (levels-step t at s e m q) (property-bad (bytesAt t d) (i .id) (bytesAt t n) (j .id) (bytesAt t p) (k .id) (part t s e) (levelsFrom t m) f g))
+    pub property-no : eqBytes (slice t s e) setWord ≡ false → eqBytes (slice t s e) $target ≡ false → Shows t (d .start) (formOf (bytesAt t d ∷ bytesAt t n ∷ bytesAt t p ∷ levelsFrom t at)) (Refused 9)
+    property-no f g = refuse t 9 _ (rw (levels-step t at s e m q) (property-bad (bytesAt t d) (i .id) (bytesAt t n) (j .id) (bytesAt t p) (k .id) (slice t s e) (levelsFrom t m) f g))
 
     module _ (h : length t < m) where
-      last : levelsFrom t at ≡ part t s e ∷ []
+      last : levelsFrom t at ≡ slice t s e ∷ []
       last = levels-step t at s e m q ∙ rw (levels-past t m h)
 
-      pub set-yes : eqBytes (part t s e) setWord ≡ true → Shows t (d .start) (formOf (bytesAt t d ∷ bytesAt t n ∷ bytesAt t p ∷ levelsFrom t at)) (Set d n p)
+      pub set-yes : eqBytes (slice t s e) setWord ≡ true → Shows t (d .start) (formOf (bytesAt t d ∷ bytesAt t n ∷ bytesAt t p ∷ levelsFrom t at)) (Set d n p)
       unfolding meaning
       set-yes f = record {
-        says = sym (rw last (set-row (bytesAt t d) (i .id) (bytesAt t n) (j .id) (bytesAt t p) (k .id) (part t s e) f));
+        says = sym (rw last (set-row (bytesAt t d) (i .id) (bytesAt t n) (j .id) (bytesAt t p) (k .id) (slice t s e) f));
         places = (i .within, j .within, k .within);
         stand = (refl, a, b);
       }
 
-      pub target-yes : eqBytes (part t s e) setWord ≡ false → eqBytes (part t s e) $target ≡ true → Shows t (d .start) (formOf (bytesAt t d ∷ bytesAt t n ∷ bytesAt t p ∷ levelsFrom t at)) (Target d n p)
+      pub target-yes : eqBytes (slice t s e) setWord ≡ false → eqBytes (slice t s e) $target ≡ true → Shows t (d .start) (formOf (bytesAt t d ∷ bytesAt t n ∷ bytesAt t p ∷ levelsFrom t at)) (Target d n p)
       unfolding meaning
       target-yes f g = record {
-        says = sym (rw last (target-row (bytesAt t d) (i .id) (bytesAt t n) (j .id) (bytesAt t p) (k .id) (part t s e) f g));
+        says = sym (rw last (target-row (bytesAt t d) (i .id) (bytesAt t n) (j .id) (bytesAt t p) (k .id) (slice t s e) f g));
         places = (i .within, j .within, k .within);
         stand = (refl, a, b);
       }
@@ -189,7 +191,7 @@ rest-levels test h [] k = absurd (false≢true (sym (rw h) ∙ k))
 rest-levels test h (b ∷ s) k = refl
 
 pub rest-is : (test : List ℕ → Bool) → test [] ≡ false → (t : List ℕ) (at : ℕ) → at ≤ length t → each test (levelsFrom t at) ≡ true
-    → levelsIn (part t at (length t)) ≡ levelsFrom t at
+    → levelsIn (slice t at (length t)) ≡ levelsFrom t at
 rest-is test h t at k e = rw (part-rest t at, levels-here t at k) (rest-levels test h (drop at t) (rw (levels-here t at k) at e))
 
 -- `$broadcast`
@@ -211,7 +213,7 @@ module _ (t : List ℕ) (at b : ℕ) where
 -- ---- `other`
 
 -- the ID behind the `$` of a word
-pub word-tail : (t : List ℕ) (s e : ℕ) → s < e → e ≤ length t → drop 1 (part t s e) ≡ part t (s + 1) e
+pub word-tail : (t : List ℕ) (s e : ℕ) → s < e → e ≤ length t → drop 1 (slice t s e) ≡ slice t (s + 1) e
 word-tail t s e h k =
     let z : e - s ≡ suc (e - (s + 1)) = omega arith in
     rw (z, drop-cons t s 0 (omega arith), add-one)
@@ -221,8 +223,8 @@ unfolding dollarId
 dollar-some [] h = absurd (false≢true h)
 dollar-some (b ∷ l) h = omega arith
 
-pub dollar-place : (t : List ℕ) (s e : ℕ) → dollarId (part t s e) ≡ true → s < e
-dollar-place t s e h = omega (arith, dollar-some (part t s e) h, length-take (e - s) (drop s t))
+pub dollar-place : (t : List ℕ) (s e : ℕ) → dollarId (slice t s e) ≡ true → s < e
+dollar-place t s e h = omega (arith, dollar-some (slice t s e) h, length-take (e - s) (drop s t))
 
 module _ (t : List ℕ) (d w : Place) (at : ℕ) (i : IdAt t d) (j : WordAt t w) (f : oneOf reserved (bytesAt t w) ≡ false) (a : Next d (w .start)) (b : Next w at) where
   word-fits : formOf (bytesAt t d ∷ bytesAt t w ∷ levelsFrom t at) ≡ (when (dollarId (bytesAt t w) && each filled (levelsFrom t at)) give other (bytesAt t d) (drop 1 (bytesAt t w)) (levelsFrom t at) else refused 9)
@@ -241,7 +243,7 @@ module _ (t : List ℕ) (d w : Place) (at : ℕ) (i : IdAt t d) (j : WordAt t w)
     some : w .start < w .end
     some = dollar-place t (w .start) (w .end) h
 
-    other-row : formOf (bytesAt t d ∷ bytesAt t w ∷ levelsFrom t at) ≡ gives (other (bytesAt t d) (part t (w .start + 1) (w .end)) (levelsFrom t at))
+    other-row : formOf (bytesAt t d ∷ bytesAt t w ∷ levelsFrom t at) ≡ gives (other (bytesAt t d) (slice t (w .start + 1) (w .end)) (levelsFrom t at))
     unfolding when_give_else_
     other-row = word-fits ∙ rw (h, k, word-tail t (w .start) (w .end) some (j .within .inside))
 
@@ -279,7 +281,7 @@ module _ (t : List ℕ) (d : Place) (at : ℕ) (i : IdAt t d) where
   pub device-none : Nothing ≡ partAt slash t at → Shows t (d .start) (formOf (bytesAt t d ∷ levelsFrom t at)) (Refused 9)
   device-none q = refuse t 9 _ (rw (levels-none t at q) (device-alone (bytesAt t d) (i .id)))
 
-  pub device-next : (s e n : ℕ) → Found s e n ≡ partAt slash t at → (r : Topic) → Shows t (d .start) (formOf (bytesAt t d ∷ part t s e ∷ levelsFrom t n)) r → Shows t (d .start) (formOf (bytesAt t d ∷ levelsFrom t at)) r
+  pub device-next : (s e n : ℕ) → Found s e n ≡ partAt slash t at → (r : Topic) → Shows t (d .start) (formOf (bytesAt t d ∷ slice t s e ∷ levelsFrom t n)) r → Shows t (d .start) (formOf (bytesAt t d ∷ levelsFrom t at)) r
   device-next s e n q r h = rw (levels-step t at s e n q) h
 
 module _ (t : List ℕ) (at : ℕ) where
@@ -287,26 +289,23 @@ module _ (t : List ℕ) (at : ℕ) where
   form-none q = refuse t 9 _ (rw (levels-none t at q) no-levels)
 
   module _ (s e n : ℕ) (q : Found s e n ≡ partAt slash t at) where
-    pub form-no : eqBytes (part t s e) $broadcast ≡ false → isId (part t s e) ≡ false → Shows t at (formOf (levelsFrom t at)) (Refused 9)
-    form-no f g = refuse t 9 _ (rw (levels-step t at s e n q) (no-device (part t s e) (levelsFrom t n) f g))
+    pub form-no : eqBytes (slice t s e) $broadcast ≡ false → isId (slice t s e) ≡ false → Shows t at (formOf (levelsFrom t at)) (Refused 9)
+    form-no f g = refuse t 9 _ (rw (levels-step t at s e n q) (no-device (slice t s e) (levelsFrom t n) f g))
 
-    pub form-next : (r : Topic) → Shows t s (formOf (part t s e ∷ levelsFrom t n)) r → Shows t at (formOf (levelsFrom t at)) r
-    form-next r h = rw (levels-step t at s e n q) (subst (λ (b : ℕ). Shows t b (formOf (part t s e ∷ levelsFrom t n)) r) (found t at s e n q .start) h)
+    pub form-next : (r : Topic) → Shows t s (formOf (slice t s e ∷ levelsFrom t n)) r → Shows t at (formOf (levelsFrom t at)) r
+    form-next r h = rw (levels-step t at s e n q) (subst (λ (b : ℕ). Shows t b (formOf (slice t s e ∷ levelsFrom t n)) r) (found t at s e n q .start) h)
 
-    pub form-broadcast : eqBytes (part t s e) $broadcast ≡ true → (r : Topic) → Shows t at (formOf ($broadcast ∷ levelsFrom t n)) r → Shows t at (formOf (levelsFrom t at)) r
-    form-broadcast f r h = rw (levels-step t at s e n q, eqBytes-true (part t s e) $broadcast f) h
+    pub form-broadcast : eqBytes (slice t s e) $broadcast ≡ true → (r : Topic) → Shows t at (formOf ($broadcast ∷ levelsFrom t n)) r → Shows t at (formOf (levelsFrom t at)) r
+    form-broadcast f r h = rw (levels-step t at s e n q, eqBytes-true (slice t s e) $broadcast f) h
 
 -- ---- the first two levels
-
-part-length : (t : List ℕ) (s e : ℕ) → s ≤ e → e ≤ length t → length (part t s e) ≡ e - s
-part-length t s e h k = omega (arith, length-take (e - s) (drop s t), length-drop s t)
 
 -- a topic's levels
 all-levels : (t : List ℕ) → split slash t ≡ levelsFrom t 0
 all-levels t = sym (levels-here t 0 (omega arith))
 
 module _ (d t : List ℕ) (s e n : ℕ) (q : Found s e n ≡ partAt slash t 0) where
-  first : readTopic d t ≡ readLevels d (part t s e ∷ levelsFrom t n)
+  first : readTopic d t ≡ readLevels d (slice t s e ∷ levelsFrom t n)
   unfolding readTopic
   first = rw (all-levels t, levels-step t 0 s e n q)
 
@@ -315,32 +314,32 @@ module _ (d t : List ℕ) (s e n : ℕ) (q : Found s e n ≡ partAt slash t 0) w
   other-domain l [] f = refl
   other-domain l (m ∷ ls) f = rw f
 
-  pub domain-no : eqBytes (part t s e) d ≡ false → Shows t (restOf d) (readTopic d t) (Refused 8)
-  domain-no f = refuse t 8 _ (first ∙ other-domain (part t s e) (levelsFrom t n) f)
+  pub domain-no : eqBytes (slice t s e) d ≡ false → Shows t (restOf d) (readTopic d t) (Refused 8)
+  domain-no f = refuse t 8 _ (first ∙ other-domain (slice t s e) (levelsFrom t n) f)
 
   pub domain-alone : Nothing ≡ partAt slash t n → Shows t (restOf d) (readTopic d t) (Refused 8)
   unfolding readLevels
   domain-alone r = refuse t 8 _ (first ∙ rw (levels-none t n r))
 
   module _ (s2 e2 n2 : ℕ) (r : Found s2 e2 n2 ≡ partAt slash t n) where
-    both-levels : readTopic d t ≡ require (eqBytes (part t s e) d && eqBytes (part t s2 e2) five) 8 (formOf (levelsFrom t n2))
+    both-levels : readTopic d t ≡ require (eqBytes (slice t s e) d && eqBytes (slice t s2 e2) five) 8 (formOf (levelsFrom t n2))
     unfolding readLevels
     both-levels = first ∙ rw (levels-step t n s2 e2 n2 r)
 
     -- the domain, `/`, `5` and `/` stand before the rest
-    rest-at : eqBytes (part t s e) d ≡ true → eqBytes (part t s2 e2) five ≡ true → n2 ≡ restOf d
+    rest-at : eqBytes (slice t s e) d ≡ true → eqBytes (slice t s2 e2) five ≡ true → n2 ≡ restOf d
     rest-at f g =
         let p = found t 0 s e n q in
         let p2 = found t n s2 e2 n2 r in
-        let a : e - s ≡ length d = sym (part-length t s e (p .ordered) (p .within)) ∙ ap (λ (l : List ℕ). length l) (eqBytes-true (part t s e) d f) in
-        let b : e2 - s2 ≡ 1 = sym (part-length t s2 e2 (p2 .ordered) (p2 .within)) ∙ ap (λ (l : List ℕ). length l) (eqBytes-true (part t s2 e2) five g) in
+        let a : e - s ≡ length d = sym (slice-length t s e (p .ordered) (p .within)) ∙ ap (λ (l : List ℕ). length l) (eqBytes-true (slice t s e) d f) in
+        let b : e2 - s2 ≡ 1 = sym (slice-length t s2 e2 (p2 .ordered) (p2 .within)) ∙ ap (λ (l : List ℕ). length l) (eqBytes-true (slice t s2 e2) five g) in
         omega (arith, a, b, p .start, p .ordered, p .next, p2 .start, p2 .ordered, p2 .next)
 
-    pub version-no : eqBytes (part t s2 e2) five ≡ false → Shows t (restOf d) (readTopic d t) (Refused 8)
+    pub version-no : eqBytes (slice t s2 e2) five ≡ false → Shows t (restOf d) (readTopic d t) (Refused 8)
     unfolding require
-    version-no f = refuse t 8 _ (both-levels ∙ rw (f, and-false (eqBytes (part t s e) d)))
+    version-no f = refuse t 8 _ (both-levels ∙ rw (f, and-false (eqBytes (slice t s e) d)))
 
-    pub version-yes : eqBytes (part t s e) d ≡ true → eqBytes (part t s2 e2) five ≡ true → (a : Topic) → Shows t n2 (formOf (levelsFrom t n2)) a → Shows t (restOf d) (readTopic d t) a
+    pub version-yes : eqBytes (slice t s e) d ≡ true → eqBytes (slice t s2 e2) five ≡ true → (a : Topic) → Shows t n2 (formOf (levelsFrom t n2)) a → Shows t (restOf d) (readTopic d t) a
     unfolding require
     version-yes f g a h = rw (both-levels, f, g) (subst (λ (b : ℕ). Shows t b (formOf (levelsFrom t n2)) a) (rest-at f g) h)
 

@@ -9,7 +9,7 @@ use lib.ListN.{length, drop, getD, length-drop}
 use lib.Seq.{take-all, drop-cons}
 use borrow.Author.Tests.{le-leb, lt-leb, leb-true, leb-false, eq-eqb, ne-eqb}
 use Rattle.text.specs.declared.Part.the-variants.{Found, Nothing}
-use Rattle.text.specs.Bytes.{part, eqBytes}
+use Rattle.text.specs.Bytes.{slice, eqBytes}
 use Rattle.text.specs.Split.{split, partAt}
 use Rattle.text.proofs.Split.{IsPart, is-part, is-none, split-first, split-more, split-last}
 use Rattle.text.specs.Ids.{isId}
@@ -39,16 +39,16 @@ module _ (t : List ℕ) (at : ℕ) where
     pub found : IsPart slash t at s e n
     found = is-part slash t at s e n q
 
-    pub levels-step : levelsFrom t at ≡ part t s e ∷ levelsFrom t n
+    pub levels-step : levelsFrom t at ≡ slice t s e ∷ levelsFrom t n
     unfolding levelsFrom
     levels-step = rw (le-leb at (length t) (found .here)) (pick (leb n (length t)) (leb-true n (length t)) (leb-false n (length t)))
       where
-        pick : (b : Bool) → (b ≡ true → n ≤ length t) → (b ≡ false → length t < n) → split slash (drop at t) ≡ part t s e ∷ cond b (split slash (drop n t)) []
+        pick : (b : Bool) → (b ≡ true → n ≤ length t) → (b ≡ false → length t < n) → split slash (drop at t) ≡ slice t s e ∷ cond b (split slash (drop n t)) []
         pick true h k = split-more slash t at s e n found (h refl)
         pick false h k = split-last slash t at s e n found (k refl)
 
 -- the rest of a topic as one part
-pub part-rest : (t : List ℕ) (at : ℕ) → part t at (length t) ≡ drop at t
+pub part-rest : (t : List ℕ) (at : ℕ) → slice t at (length t) ≡ drop at t
 part-rest t at = take-all (length t - at) (drop at t) (omega (arith, length-drop at t))
 
 -- ---- a test of each level, level by level
@@ -58,21 +58,21 @@ module _ (test : List ℕ → Bool) (t : List ℕ) (at i : ℕ) (inv : each test
   each-end q = sym (inv ∙ rw (levels-none t i q))
 
   module _ (s e n : ℕ) (q : Found s e n ≡ partAt slash t i) where
-    step : each test (levelsFrom t at) ≡ (test (part t s e) && each test (levelsFrom t n))
+    step : each test (levelsFrom t at) ≡ (test (slice t s e) && each test (levelsFrom t n))
     unfolding each
     step = inv ∙ rw (levels-step t i s e n q)
 
-    pub each-stop : test (part t s e) ≡ false → false ≡ each test (levelsFrom t at)
+    pub each-stop : test (slice t s e) ≡ false → false ≡ each test (levelsFrom t at)
     each-stop h = sym (step ∙ rw h)
 
-    pub each-next : test (part t s e) ≡ true → each test (levelsFrom t at) ≡ each test (levelsFrom t n)
+    pub each-next : test (slice t s e) ≡ true → each test (levelsFrom t at) ≡ each test (levelsFrom t n)
     each-next h = step ∙ rw h
 
-pub part-empty : (t : List ℕ) (s e : ℕ) → s ≡ e → filled (part t s e) ≡ false
+pub part-empty : (t : List ℕ) (s e : ℕ) → s ≡ e → filled (slice t s e) ≡ false
 unfolding filled
 part-empty t s e h = let z : e - s ≡ 0 = omega arith in rw z
 
-pub part-filled : (t : List ℕ) (s e : ℕ) → s < e → e ≤ length t → filled (part t s e) ≡ true
+pub part-filled : (t : List ℕ) (s e : ℕ) → s < e → e ≤ length t → filled (slice t s e) ≡ true
 unfolding filled
 part-filled t s e h k = let z : e - s ≡ suc (e - s - 1) = omega arith in rw (z, drop-cons t s 0 (omega arith))
 
@@ -103,7 +103,7 @@ unfolding dollarId
 dollar-no [] h k = refl
 dollar-no (b ∷ l) h k = rw (ne-eqb b dollar k)
 
-pub dollar-tail : (l : List ℕ) → 0 < length l → getD l 0 0 ≡ dollar → isId (part l 1 (length l)) ≡ dollarId l
+pub dollar-tail : (l : List ℕ) → 0 < length l → getD l 0 0 ≡ dollar → isId (slice l 1 (length l)) ≡ dollarId l
 unfolding dollarId
 dollar-tail [] h k = absurd (omega arith)
 dollar-tail (b ∷ l) h k = rw (part-rest (b ∷ l) 1, eq-eqb b dollar k)

@@ -4,5 +4,6 @@ pub mod Answers
 pub mod Table
 pub mod Reading
 pub mod Writing
+pub mod Settled
 pub mod Theorems
 pub mod Examples

@@ -4,7 +4,7 @@ use mathlib.Core.Path.{_≡_}
 use mathlib.Core.List.{List, _∷_}
 use mathlib.Core.Logic.{_↔_}
 use mathlib.Core.Bool.{true}
-use Rattle.answer.specs.Answer.{refused, gives}
+use Rattle.answer.specs.Answer.{Answer, refused, gives}
 use Rattle.text.specs.Split.{split}
 use Rattle.text.specs.Ids.{isId}
 use Rattle.topic.specs.Words.{slash, five}
@@ -12,9 +12,12 @@ use Rattle.topic.specs.Form.{Form}
 use Rattle.topic.specs.Topics.{formOf, readTopic}
 use Rattle.topic.specs.Table.{HasForm, HasTopicForm}
 use Rattle.topic.specs.Writing.{writeTopic, valid}
+use Rattle.topic.specs.Meaning.{Shows}
+use Rattle.topic.specs.declared.Topic.{Topic}
 use Rattle.topic.proofs.Table.{complete, sound}
 use Rattle.topic.proofs.Reading.{no-form, nine-none, read-gives, gives-read, read-eight, eight-read, read-nine, nine-read}
 use Rattle.topic.proofs.Writing.{id-free, read-written, written, read-valid}
+use Rattle.topic.proofs.Settled.{shows-settled}
 
 -- The table: a row of it admits the levels, with those IDs, exactly where the definition gives that form.
 pub table : (ls : List (List ℕ)) (f : Form) → (formOf ls ≡ gives f) ↔ HasForm ls f
@@ -51,3 +54,7 @@ read-write d f h k = read-written d f (id-free d h) k
 -- What is read as a form is the topic written for it, and its IDs and levels are valid.
 pub write-read : (d t : List ℕ) (f : Form) → readTopic d t ≡ gives f → (writeTopic d f ≡ t) × (valid f ≡ true)
 write-read d t f e = let h = read-gives d t f e in (written d t f h, read-valid d t f h)
+
+-- The contract of `read` settles its answer: which form, and each place.
+pub settled : (topic : List ℕ) (at : ℕ) (x : Answer Form) (r r′ : Topic) → Shows topic at x r → Shows topic at x r′ → r ≡ r′
+settled = shows-settled

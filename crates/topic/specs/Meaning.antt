@@ -1,20 +1,15 @@
 -- What the answer of `read` says: the paper's number, or the form with its byte strings, which the answer shows as places in the topic.
-use Prim.Native.Nat.{ℕ, _+_, _≤_}
+use Prim.Native.Nat.{ℕ, _+_}
 use mathlib.Core.Path.{_≡_}
 use mathlib.Core.List.{List, [], _∷_}
 use lib.ListN.{length}
 use Rattle.answer.specs.Answer.{Answer, refused, gives}
-use Rattle.text.specs.Bytes.{part}
+use Rattle.text.specs.Places.{bytesAt, Within}
 use Rattle.text.specs.Split.{split}
 use Rattle.topic.specs.Words.{slash}
 use Rattle.topic.specs.Form.{Form, state, description, value, set, target, alert, log, broadcast, other}
-use Rattle.topic.specs.declared.Place.{Place}
 use Rattle.topic.specs.declared.Topic.{Topic}
 use Rattle.topic.specs.declared.Topic.the-variants.{Refused, State, Description, Value, Set, Target, Alert, Log, Broadcast, Other}
-
--- the bytes at a place
-abbrev pub bytesAt : List ℕ → Place → List ℕ
-bytesAt t p = part t (p .start) (p .end)
 
 -- the levels of a part of a topic; an empty part has none
 unfoldable pub levelsIn : List ℕ → List (List ℕ)
@@ -32,11 +27,6 @@ meaning t (Alert d a) = gives (alert (bytesAt t d) (bytesAt t a))
 meaning t (Log d l) = gives (log (bytesAt t d) (bytesAt t l))
 meaning t (Broadcast ids) = gives (broadcast (levelsIn (bytesAt t ids)))
 meaning t (Other d w ls) = gives (other (bytesAt t d) (bytesAt t w) (levelsIn (bytesAt t ls)))
-
--- a place in a topic of that length
-pub record Within (n : ℕ) (p : Place) : Type 0 where
-  pub ordered : p .start ≤ p .end
-  pub inside : p .end ≤ n
 
 -- every place that an answer shows lies in the topic
 abbrev pub Inside : ℕ → Topic → Type 0

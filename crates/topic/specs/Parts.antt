@@ -8,8 +8,8 @@ use lib.ListN.{length, drop}
 use Rattle.text.specs.Split.{split}
 use Rattle.text.specs.Ids.{isId}
 use Rattle.topic.specs.Words.{slash}
-use Rattle.topic.specs.Meaning.{bytesAt, Within}
-use Rattle.topic.specs.declared.Place.{Place}
+use Rattle.text.specs.Places.{bytesAt, Within}
+use Rattle.text.specs.declared.Place.{Place}
 
 -- the levels from a place on; past the end there are none
 unfoldable pub levelsFrom : List ℕ → ℕ → List (List ℕ)

@@ -1,5 +1,6 @@
 // Topics: which form a topic has, and where its IDs stand.
 use text::Part;
+use text::Place;
 ghost use Rattle.topic.specs.Topics.{readTopic};
 ghost use Rattle.topic.specs.Meaning.{Shows, restOf};
 ghost use Rattle.topic.specs.Flags.{Asks, admits};
@@ -7,12 +8,6 @@ ghost use mathlib.Core.Path.{_≡_};
 
 mod level;
 mod rest;
-
-// The bytes `start..end` of a topic.
-pub struct Place {
-    pub start: usize,
-    pub end: usize,
-}
 
 // A topic's form with the places of its IDs, or the refusal's number.
 pub enum Topic {

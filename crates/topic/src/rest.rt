@@ -1,15 +1,16 @@
 // The form of a topic's levels after the first two.
-use super::Place;
 use super::Topic;
 use super::level;
 use text::Part;
+use text::Place;
 ghost use Prim.Native.Nat.{ℕ};
 ghost use mathlib.Core.Path.{_≡_};
 ghost use mathlib.Core.Bool.{false};
 ghost use mathlib.Core.List.{_∷_};
 ghost use Rattle.topic.specs.Words.{reserved, $state, $description, $alert, $log, $broadcast};
 ghost use Rattle.topic.specs.Topics.{oneOf, formOf};
-ghost use Rattle.topic.specs.Meaning.{bytesAt, Shows};
+ghost use Rattle.text.specs.Places.{bytesAt};
+ghost use Rattle.topic.specs.Meaning.{Shows};
 ghost use Rattle.topic.specs.Parts.{levelsFrom, Next, IdAt, WordAt};
 
 // The form of the levels from `at` on.

@@ -5,8 +5,8 @@ use mathlib.Core.List.{List}
 use mathlib.Core.Option.{Option, some}
 use lib.ListN.{length}
 use Rattle.answer.specs.Answer.{Answer, refused, gives, andThen}
-use Rattle.topic.specs.Meaning.{bytesAt}
-use Rattle.topic.specs.declared.Place.{Place}
+use Rattle.text.specs.Places.{bytesAt}
+use Rattle.text.specs.declared.Place.{Place}
 use Rattle.description.specs.Description.{Described, describe}
 use Rattle.rules.specs.Table.{Device, Description, newDescription}
 use Rattle.rules.specs.Find.{change, changeAt}

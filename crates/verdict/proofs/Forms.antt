@@ -8,25 +8,25 @@ use types.Run.{OneOf, miss}
 use denote.Enum.Declared.{tagOf}
 use Rattle.answer.specs.Answer.{Answer, refused, gives, andThen}
 use Rattle.answer.proofs.Theorems.{require-holds, require-fails}
-use Rattle.text.specs.Ids.{isId}
+use Rattle.text.specs.Ids.{isId, idMost}
 use Rattle.text.proofs.Ids.{is-id}
 use Rattle.text.specs.Utf8.{isText}
 use Rattle.topic.specs.Form as form
 use Rattle.topic.specs.Form.{Form}
 use Rattle.topic.specs.Topics.{readTopic}
 use Rattle.topic.specs.Flags.{flagOf, flagIn, admits}
-use Rattle.topic.specs.Meaning.{bytesAt, levelsIn, meaning}
+use Rattle.text.specs.Places.{bytesAt}
+use Rattle.topic.specs.Meaning.{levelsIn, meaning}
 use Rattle.topic.specs.Writing.{valid}
 use Rattle.topic.specs.declared.Topic.{Topic}
 use Rattle.topic.proofs.Topic.{the-type}
 use Rattle.topic.specs.declared.Topic.the-variants as shown
-use Rattle.topic.specs.declared.Place.{Place}
+use Rattle.text.specs.declared.Place.{Place}
 use Rattle.topic.specs.declared.Flag.{Flag}
 use Rattle.topic.proofs.Theorems.{write-read}
 use Rattle.rules.specs.declared.LaneKind.the-variants.{Value, Target, Asked}
 use Rattle.rules.specs.Table.{Table}
-use Rattle.device.specs.Layout.{idMost}
-use Rattle.rules.specs.Messages.{Message, isDue, formOf, obey}
+use Rattle.rules.specs.Messages.{Message, isDue, admittedForm, obey}
 use Rattle.verdict.specs.declared.Verdict.{Verdict}
 use Rattle.verdict.specs.declared.Verdict.the-variants.{Refused, Time}
 use Rattle.verdict.specs.Verdict.{sent, makes, Judged, obeyed}
@@ -79,11 +79,11 @@ not-refused (shown.Other d w ls) k s = record { form = form.other (bytesAt s d) 
 
 module _ (domain : List ℕ) (d : ℕ) (t : Table) (x : Message) where
   pub early : isDue (t .last) (x .time) ≡ false → Judged d x (t .devices) (obeyed domain d t x) (Refused 7)
-  unfolding makes obeyed formOf andThen
+  unfolding makes obeyed admittedForm andThen
   early e = record { says = rw (require-fails {A = Form} (isDue (t .last) (x .time)) 7 _ e); fits = tt }
 
   due : isDue (t .last) (x .time) ≡ true → obeyed domain d t x ≡ andThen (formed (x .retained) (x .payload) (readTopic domain (x .topic))) (λ f. obey d x (t .devices) f)
-  unfolding obeyed formOf formed
+  unfolding obeyed admittedForm formed
   due e = rw (require-holds {A = Form} (isDue (t .last) (x .time)) 7 _ e)
 
   told : (n : ℕ) (a : Answer Form) → (n ≡ 0 → ⊥) → andThen (unless n a) (λ f. obey d x (t .devices) f) ≡ makes x (t .devices) (Refused n)

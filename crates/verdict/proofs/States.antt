@@ -10,10 +10,10 @@ use borrow.Author.Tests.{lt-ltb, le-ltb}
 use Rattle.answer.specs.Answer.{Answer, gives, require, andThen}
 use Rattle.answer.proofs.Theorems.{require-holds, require-fails}
 use Rattle.text.specs.Bytes.{lessBytes}
-use Rattle.topic.specs.Meaning.{bytesAt}
-use Rattle.topic.specs.declared.Place.{Place}
+use Rattle.text.specs.Places.{bytesAt}
+use Rattle.text.specs.declared.Place.{Place}
 use Rattle.memory.specs.Bytes.{removeAt, insertAt}
-use Rattle.device.specs.Layout.{idMost}
+use Rattle.text.specs.Ids.{idMost}
 use Rattle.rules.specs.declared.DeviceState.{DeviceState}
 use Rattle.rules.specs.States.{stateWorded}
 use Rattle.rules.specs.Table.{Device}

@@ -9,7 +9,7 @@ use lib.Dec.{eqb, leb}
 use borrow.Author.Tests.{leb-true, ne-eqb}
 use Rattle.answer.specs.Answer.{Answer, require}
 use Rattle.text.proofs.Bytes.{and-both}
-use Rattle.topic.specs.Meaning.{bytesAt}
+use Rattle.text.specs.Places.{bytesAt}
 use Rattle.payload.specs.Formats.{isFormat}
 use Rattle.payload.specs.Payloads.{isPayload, mayBe, isOf}
 use Rattle.rules.specs.declared.LaneKind.{LaneKind}

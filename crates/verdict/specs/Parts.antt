@@ -8,16 +8,18 @@ use Rattle.answer.specs.Answer.{Answer, refused, gives, require, andThen}
 use Rattle.text.specs.Utf8.{isText}
 use Rattle.topic.specs.Form.{Form}
 use Rattle.topic.specs.Flags.{flagOf, admits}
-use Rattle.topic.specs.Meaning.{bytesAt, meaning}
+use Rattle.text.specs.Places.{bytesAt}
+use Rattle.topic.specs.Meaning.{meaning}
 use Rattle.topic.specs.Writing.{valid}
-use Rattle.topic.specs.declared.Place.{Place}
+use Rattle.text.specs.declared.Place.{Place}
 use Rattle.topic.specs.declared.Topic.{Topic}
-use Rattle.device.specs.Layout.{idMost, payloadMost}
+use Rattle.text.specs.Ids.{idMost}
+use Rattle.device.specs.Layout.{payloadMost}
 use Rattle.rules.specs.declared.LaneKind.{LaneKind}
 use Rattle.rules.specs.Table.{Device, Property}
 use Rattle.rules.specs.Find.{find}
 use Rattle.rules.specs.Messages.{Message, sameFlag, laneRules, obeyState, obeyDescription, obeyLane, obey}
-use Rattle.lookup.specs.Meaning.{openingOf, means}
+use Rattle.lookup.specs.Meaning.{openingOf, devicesIn}
 use Rattle.verdict.specs.declared.Verdict.{Verdict}
 use Rattle.verdict.specs.Verdict.{sent, Judged}
 
@@ -55,7 +57,7 @@ Named topic t = (f : Form) → meaning topic t ≡ gives f → valid f ≡ true
 
 -- the verdict on a message of a form, for any time (and any flag, where the form fixes it)
 abbrev pub On : (m : List ℕ) → Message → (ℕ → List Device → Answer (List Device)) → Verdict → Type 0
-On m x obeys v = Judged (openingOf m .devices) x (means m .now .devices) (obeys (openingOf m .devices) (means m .now .devices)) v
+On m x obeys v = Judged (openingOf m .devices) x (devicesIn m) (obeys (openingOf m .devices) (devicesIn m)) v
 
 abbrev pub OnState : (m topic : List ℕ) → Place → (payload : List ℕ) → Verdict → Type 0
 OnState m topic device payload v =

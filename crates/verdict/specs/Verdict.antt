@@ -6,14 +6,15 @@ use mathlib.Core.Bool.{Bool}
 use mathlib.Core.Option.{none, some}
 use lib.ListN.{length}
 use Rattle.answer.specs.Answer.{Answer, refused, gives, andThen}
-use Rattle.topic.specs.Meaning.{bytesAt}
+use Rattle.text.specs.Places.{bytesAt}
 use Rattle.description.specs.Description.{describe}
 use Rattle.memory.specs.Bytes.{removeAt, insertAt}
-use Rattle.device.specs.Layout.{idMost, propertiesMost, payloadMost}
+use Rattle.text.specs.Ids.{idMost}
+use Rattle.device.specs.Layout.{propertiesMost, payloadMost}
 use Rattle.rules.specs.Table.{Device, Table, withLane, newDescription}
 use Rattle.rules.specs.Find.{inDevice, changeAt}
-use Rattle.rules.specs.Messages.{Message, withState, newDevice, withDescription, heldBy, formOf, obey}
-use Rattle.lookup.specs.Meaning.{openingOf, means}
+use Rattle.rules.specs.Messages.{Message, withState, newDevice, withDescription, heldBy, admittedForm, obey}
+use Rattle.lookup.specs.Meaning.{openingOf, means, devicesIn}
 use Rattle.verdict.specs.declared.Verdict.{Verdict}
 use Rattle.verdict.specs.declared.Verdict.the-variants.{Refused, Time, Remove, State, Create, Undescribe, Describe, Lane}
 
@@ -33,25 +34,25 @@ makes x ds (Describe r id) = andThen (describe (bytesAt (x .topic) id) (x .paylo
 makes x ds (Lane r i kind) = gives (changeAt r (inDevice (changeAt i (withLane kind (heldBy x)))) ds)
 
 -- its ranks are ranks, and what it writes has room, with at most d devices
-abbrev pub Fits : ℕ → Message → List Device → Verdict → Type 0
-Fits d x ds (Refused n) = Unit
-Fits d x ds Time = Unit
-Fits d x ds (Remove r) = r < length ds
-Fits d x ds (State r s) = r < length ds
-Fits d x ds (Create r s id) = (r ≤ length ds) × (length ds < d) × (length (bytesAt (x .topic) id) ≤ idMost)
-Fits d x ds (Undescribe r) = r < length ds
-Fits d x ds (Describe r id) = r < length ds
-Fits d x ds (Lane r i kind) = (r < length ds) × (i < propertiesMost) × (length (x .payload) ≤ payloadMost)
+abbrev pub Writable : ℕ → Message → List Device → Verdict → Type 0
+Writable d x ds (Refused n) = Unit
+Writable d x ds Time = Unit
+Writable d x ds (Remove r) = r < length ds
+Writable d x ds (State r s) = r < length ds
+Writable d x ds (Create r s id) = (r ≤ length ds) × (length ds < d) × (length (bytesAt (x .topic) id) ≤ idMost)
+Writable d x ds (Undescribe r) = r < length ds
+Writable d x ds (Describe r id) = r < length ds
+Writable d x ds (Lane r i kind) = (r < length ds) × (i < propertiesMost) × (length (x .payload) ≤ payloadMost)
 
 -- it says what it should, and can be written
 pub record Judged (d : ℕ) (x : Message) (ds : List Device) (should : Answer (List Device)) (v : Verdict) : Type 0 where
   pub says : makes x ds v ≡ should
-  pub fits : Fits d x ds v
+  pub fits : Writable d x ds v
 
 -- what the rules make of the devices
 unfoldable pub obeyed : (domain : List ℕ) → (d : ℕ) → Table → Message → Answer (List Device)
-obeyed domain d t x = andThen (formOf domain t x) (λ f. obey d x (t .devices) f)
+obeyed domain d t x = andThen (admittedForm domain t x) (λ f. obey d x (t .devices) f)
 
 -- a verdict on a message to the table that memory means
 abbrev pub Verdicts : (m : List ℕ) → Message → Verdict → Type 0
-Verdicts m x v = Judged (openingOf m .devices) x (means m .now .devices) (obeyed (openingOf m .domain) (openingOf m .devices) (means m .now) x) v
+Verdicts m x v = Judged (openingOf m .devices) x (devicesIn m) (obeyed (openingOf m .domain) (openingOf m .devices) (means m .now) x) v

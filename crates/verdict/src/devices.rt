@@ -2,13 +2,13 @@
 ghost use Rattle.verdict.specs.Parts.{OnState, OnDescription, OnKnown};
 use crate::Verdict;
 use rules::Worded;
-use topic::Place;
+use text::Place;
 
 // "state: empty 12; else 14, 13."
 pub(crate) fn state(mem: &[u8], topic: &[u8], device: Place, payload: &[u8]) -> Verdict
     ensures { λ r. ⌜ OnState (now (mem .entry)) (now (topic .entry)) device (now (payload .entry)) r ⌝ }
 {
-    let id = fields::slice(topic, device.start, device.end);
+    let id = text::slice(topic, device.start, device.end);
     let rank = lookup::find(mem, id);
     let n = lookup::count(mem);
     if payload.len() == 0 {
@@ -40,7 +40,7 @@ pub(crate) fn state(mem: &[u8], topic: &[u8], device: Place, payload: &[u8]) -> 
 pub(crate) fn description(mem: &[u8], topic: &[u8], device: Place, payload: &[u8]) -> Verdict
     ensures { λ r. ⌜ OnDescription (now (mem .entry)) (now (topic .entry)) device (now (payload .entry)) r ⌝ }
 {
-    let id = fields::slice(topic, device.start, device.end);
+    let id = text::slice(topic, device.start, device.end);
     let rank = lookup::find(mem, id);
     if lookup::count(mem) <= rank {
         return Verdict::Refused(12);
@@ -58,7 +58,7 @@ pub(crate) fn description(mem: &[u8], topic: &[u8], device: Place, payload: &[u8
 pub(crate) fn known(mem: &[u8], topic: &[u8], device: Place) -> Verdict
     ensures { λ r. ⌜ OnKnown (now (mem .entry)) (now (topic .entry)) device r ⌝ }
 {
-    let id = fields::slice(topic, device.start, device.end);
+    let id = text::slice(topic, device.start, device.end);
     if lookup::count(mem) <= lookup::find(mem, id) {
         return Verdict::Refused(12);
     }

@@ -9,7 +9,7 @@ ghost use Rattle.verdict.specs.Parts.{valueTests, setTests, targetTests,
 use crate::Verdict;
 use device::Property;
 use rules::LaneKind;
-use topic::Place;
+use text::Place;
 
 fn same_flag(a: bool, b: bool) -> bool
     ensures { λ r. ⌜ r ≡ sameFlag a b ⌝ }
@@ -71,7 +71,7 @@ fn refusal(kind: LaneKind, room: &[u8], p: Property, retained: bool, payload: &[
 {
     let format = p.format;
     let d = p.datatype;
-    let valid = payload::judge(d, fields::slice(room, format.start, format.end), payload);
+    let valid = payload::judge(d, text::slice(room, format.start, format.end), payload);
     let empty = payload.len() == 0;
     match kind {
         LaneKind::Value => of_value(p.retained, retained, empty, valid),
@@ -93,13 +93,13 @@ pub(crate) fn lane(
 ) -> Verdict
     ensures { λ r. ⌜ OnLane (now (mem .entry)) kind (now (topic .entry)) device node property retained (now (payload .entry)) r ⌝ }
 {
-    let rank = lookup::find(mem, fields::slice(topic, device.start, device.end));
+    let rank = lookup::find(mem, text::slice(topic, device.start, device.end));
     if lookup::count(mem) <= rank {
         return Verdict::Refused(12);
     }
     let room = lookup::room(mem, rank);
-    let node_id = fields::slice(topic, node.start, node.end);
-    let id = fields::slice(topic, property.start, property.end);
+    let node_id = text::slice(topic, node.start, node.end);
+    let id = text::slice(topic, property.start, property.end);
     let i = device::find_property(room, node_id, id);
     if device::properties(room) <= i {
         return Verdict::Refused(16);

@@ -18,7 +18,7 @@ use lanes::lane;
 use lookup::LastTime;
 use rules::DeviceState;
 use rules::LaneKind;
-use topic::Place;
+use text::Place;
 use topic::Topic;
 
 // A refusal's number, or what is to be done: devices and properties by rank, `id` in the message's topic.

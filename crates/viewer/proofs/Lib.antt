@@ -1,3 +1,5 @@
 pub mod Judged
 pub mod Read
 pub mod LaneNumbers
+pub mod Zero
+pub mod Theorems

@@ -12,17 +12,17 @@ use Rattle.trace.specs.Calls.{Read, PlacedIn}
 use Rattle.reply.specs.Reply.{says, refuses}
 use Rattle.reply.specs.Files.{showReading, stepReply, eventValues}
 use Rattle.reply.proofs.Shown.{as-bit}
-use Rattle.viewer.specs.Parts.{Fits, FitsFound}
+use Rattle.viewer.specs.Parts.{EndsFit, FoundEndsFit}
 
-pub fits-found : (a : Reading) (e : EventAt) → FitsFound a → a ≡ Found e → Fits e
-fits-found a e h g = subst FitsFound g h
+pub fits-found : (a : Reading) (e : EventAt) → FoundEndsFit a → a ≡ Found e → EndsFit e
+fits-found a e h g = subst FoundEndsFit g h
 
 -- places inside a file end below 2^64
-fits : (f : List ℕ) (e : EventAt) (i : ℕ) → PlacedIn f i (Found e) → length f < 2 ^ 64 → Fits e
+fits : (f : List ℕ) (e : EventAt) (i : ℕ) → PlacedIn f i (Found e) → length f < 2 ^ 64 → EndsFit e
 unfolding PlacedIn
 fits f e i p l = (omega (arith, p .topicInside), omega (arith, p .payloadInside))
 
-pub read-fits : (f : List ℕ) (i : ℕ) (r : Reading) → Read f i r → length f < 2 ^ 64 → FitsFound r
+pub read-fits : (f : List ℕ) (i : ℕ) (r : Reading) → Read f i r → length f < 2 ^ 64 → FoundEndsFit r
 read-fits f i (Found e) h l = fits f e i (h .places) l
 read-fits f i (Refused k) h l = tt
 

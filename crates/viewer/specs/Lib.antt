@@ -1,2 +1,4 @@
 pub mod Lanes
+pub mod Promises
+pub mod Calls
 pub mod Parts

@@ -5,10 +5,10 @@ use Rattle.trace.specs.declared.Reading.{Reading}
 use Rattle.trace.specs.declared.Reading.the-variants.{Found, Refused}
 
 -- the ends of an event's topic and payload are numbers of 64 bits
-abbrev pub Fits : EventAt → Type 0
-Fits e = (e .topic + e .tlen < 2 ^ 64) × (e .payload + e .plen < 2 ^ 64)
+abbrev pub EndsFit : EventAt → Type 0
+EndsFit e = (e .topic + e .tlen < 2 ^ 64) × (e .payload + e .plen < 2 ^ 64)
 
 -- those of an event that was read
-abbrev pub FitsFound : Reading → Type 0
-FitsFound (Found e) = Fits e
-FitsFound (Refused k) = Unit
+abbrev pub FoundEndsFit : Reading → Type 0
+FoundEndsFit (Found e) = EndsFit e
+FoundEndsFit (Refused k) = Unit

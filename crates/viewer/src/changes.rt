@@ -1,15 +1,12 @@
 // The table: opening, messages, steps back.
-ghost use Rattle.book.specs.Book.{message, stepBack};
-ghost use Rattle.lookup.specs.Contract.{Did, Opened};
-ghost use Rattle.verdict.specs.Verdict.{sent};
-ghost use Rattle.table.specs.Outcome.{said};
-ghost use Rattle.reply.specs.Reply.{Numbered, isSet};
+ghost use Rattle.reply.specs.Reply.{Numbered};
 ghost use Rattle.reply.specs.Answers.{outcomeNumber};
+ghost use Rattle.viewer.specs.Promises.{OpensTable, Sends, StepsBack};
 
 // Opens memory for a domain, with room for devices and for steps back.
 #[no_mangle]
 pub extern "C" fn homie5_open(mem: &mut [u8], domain: &[u8], devices: usize, depth: usize) -> u8
-    ensures { λ r. ⌜ Numbered (λ a. Opened (now (mem .entry)) (now (domain .entry)) devices depth (now (mem .exit)) (said a)) outcomeNumber r ⌝ }
+    ensures { λ r. ⌜ Numbered (OpensTable (now (mem .entry)) (now (domain .entry)) devices depth (now (mem .exit))) outcomeNumber r ⌝ }
 {
     let a = table::open(mem, domain, devices, depth);
     reply::answers::outcome_number(a)
@@ -24,7 +21,7 @@ pub extern "C" fn homie5_message(
     retained: u8,
     payload: &[u8],
 ) -> u8
-    ensures { λ r. ⌜ Numbered (λ a. Did (message (sent time (now (topic .entry)) (isSet retained) (now (payload .entry)))) (now (mem .entry)) (now (mem .exit)) (said a)) outcomeNumber r ⌝ }
+    ensures { λ r. ⌜ Numbered (Sends (now (mem .entry)) time (now (topic .entry)) retained (now (payload .entry)) (now (mem .exit))) outcomeNumber r ⌝ }
 {
     let a = table::message(mem, time, topic, retained != 0, payload);
     reply::answers::outcome_number(a)
@@ -33,7 +30,7 @@ pub extern "C" fn homie5_message(
 // Takes the last message back.
 #[no_mangle]
 pub extern "C" fn homie5_step_back(mem: &mut [u8]) -> u8
-    ensures { λ r. ⌜ Numbered (λ a. Did stepBack (now (mem .entry)) (now (mem .exit)) (said a)) outcomeNumber r ⌝ }
+    ensures { λ r. ⌜ Numbered (StepsBack (now (mem .entry)) (now (mem .exit))) outcomeNumber r ⌝ }
 {
     let a = table::step_back(mem);
     reply::answers::outcome_number(a)

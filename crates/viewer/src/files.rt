@@ -1,18 +1,19 @@
 // Trace files.
 ghost use mathlib.Core.Path.{_≡_};
 ghost use mathlib.Core.List.{[], _∷_, _++_};
-ghost use Rattle.trace.specs.Calls.{meaningChecked, checked, Read, Wrote, emptied, appended, event};
+ghost use Rattle.trace.specs.Calls.{Read};
 ghost use Rattle.cursor.specs.Cursor.{Stepped};
-ghost use Rattle.reply.specs.Reply.{Told, Replied, isSet};
+ghost use Rattle.reply.specs.Reply.{Told, Replied};
 ghost use Rattle.reply.specs.Files.{showChecked, eventValues, showReading, stepReply, showStep, showWritten};
-ghost use Rattle.viewer.specs.Parts.{Fits, FitsFound};
+ghost use Rattle.viewer.specs.Parts.{EndsFit, FoundEndsFit};
+ghost use Rattle.viewer.specs.Promises.{Checks, Empties, Appends};
 use trace::EventAt;
 use trace::Reading;
 
 // Checks a whole trace: its event count.
 #[no_mangle]
 pub extern "C" fn homie5_trace_check(file: &[u8], out: &mut [u64]) -> u8
-    ensures { λ r. ⌜ Told (λ a. meaningChecked a ≡ checked (now (file .entry))) showChecked (now (out .entry)) r (now (out .exit)) ⌝ }
+    ensures { λ r. ⌜ Told (Checks (now (file .entry))) showChecked (now (out .entry)) r (now (out .exit)) ⌝ }
 {
     let a = trace::check(file);
     reply::files::tell_checked(out, a)
@@ -20,7 +21,7 @@ pub extern "C" fn homie5_trace_check(file: &[u8], out: &mut [u64]) -> u8
 
 // An event's values, and a place.
 fn event_values(e: EventAt, at: usize) -> [u64; 7]
-    requires { ⌜ Fits e ⌝ }
+    requires { ⌜ EndsFit e ⌝ }
     ensures { λ r. ⌜ r ≡ eventValues e ++ (at ∷ []) ⌝ }
 {
     [
@@ -35,7 +36,7 @@ fn event_values(e: EventAt, at: usize) -> [u64; 7]
 }
 
 fn tell_reading(out: &mut [u64], a: Reading) -> u8
-    requires { ⌜ FitsFound a ⌝ }
+    requires { ⌜ FoundEndsFit a ⌝ }
     ensures { λ r. ⌜ Replied (showReading a) (now (out .entry)) r (now (out .exit)) ⌝ }
 {
     match a {
@@ -57,7 +58,7 @@ pub extern "C" fn homie5_trace_read(file: &[u8], i: usize, out: &mut [u64]) -> u
 }
 
 fn tell_step(out: &mut [u64], a: Reading, at: usize) -> u8
-    requires { ⌜ FitsFound a ⌝ }
+    requires { ⌜ FoundEndsFit a ⌝ }
     ensures { λ r. ⌜ Replied (stepReply a at) (now (out .entry)) r (now (out .exit)) ⌝ }
 {
     match a {
@@ -82,7 +83,7 @@ pub extern "C" fn homie5_trace_next(file: &[u8], place: usize, out: &mut [u64]) 
 // Writes the empty trace into a lent buffer: its length.
 #[no_mangle]
 pub extern "C" fn homie5_trace_empty(buf: &mut [u8], out: &mut [u64]) -> u8
-    ensures { λ r. ⌜ Told (λ a. Wrote (now (buf .entry)) (emptied (now (buf .entry))) a (now (buf .exit))) showWritten (now (out .entry)) r (now (out .exit)) ⌝ }
+    ensures { λ r. ⌜ Told (Empties (now (buf .entry)) (now (buf .exit))) showWritten (now (out .entry)) r (now (out .exit)) ⌝ }
 {
     let a = trace::write_empty(buf);
     reply::files::tell_written(out, a)
@@ -99,7 +100,7 @@ pub extern "C" fn homie5_trace_append(
     payload: &[u8],
     out: &mut [u64],
 ) -> u8
-    ensures { λ r. ⌜ Told (λ a. Wrote (now (buf .entry)) (appended (now (buf .entry)) used (event time (now (topic .entry)) (isSet retained) (now (payload .entry)))) a (now (buf .exit))) showWritten (now (out .entry)) r (now (out .exit)) ⌝ }
+    ensures { λ r. ⌜ Told (Appends (now (buf .entry)) used time (now (topic .entry)) retained (now (payload .entry)) (now (buf .exit))) showWritten (now (out .entry)) r (now (out .exit)) ⌝ }
 {
     let a = trace::append(buf, used, time, topic, retained != 0, payload);
     reply::files::tell_written(out, a)

@@ -1,23 +1,20 @@
 // Topics, payloads, descriptions.
 ghost use mathlib.Core.Path.{_≡_};
-ghost use mathlib.Core.Bool.{cond};
 ghost use Rattle.topic.specs.Topics.{readTopic};
-ghost use Rattle.topic.specs.Meaning.{Shows, restOf};
-ghost use Rattle.payload.specs.Datatypes.{datatypeAt, datatypeNamed, named};
-ghost use Rattle.payload.specs.Formats.{keptBytes, keptFormat, asked};
-ghost use Rattle.payload.specs.Payloads.{isPayload};
-ghost use Rattle.fields.specs.Fields.{holds};
-ghost use Rattle.description.specs.Description.{rules, describe};
-ghost use Rattle.description.specs.Meaning.{meaning};
-ghost use Rattle.reply.specs.Reply.{Told, Replied, bit, isSet};
+ghost use Rattle.payload.specs.Datatypes.{datatypeAt};
+ghost use Rattle.payload.specs.Formats.{givenFormat};
+ghost use Rattle.payload.specs.Payloads.{isPayloadOf};
+ghost use Rattle.description.specs.Description.{describe};
+ghost use Rattle.reply.specs.Reply.{Told, Replied, refusalNumber, bit, isSet};
 ghost use Rattle.reply.specs.Judgements.{showTopic, showFlag, showNamed, showFormat};
 ghost use Rattle.reply.specs.Descriptions.{showDescription, showDeclared};
+ghost use Rattle.viewer.specs.Promises.{ReadsTopic, NamesDatatype, KeepsFormat, ReadsDescription};
 use description::Verdict;
 
 // Reads a topic of the table of a domain: its form, and where its byte strings stand.
 #[no_mangle]
 pub extern "C" fn homie5_topic_read(domain: &[u8], topic: &[u8], out: &mut [u64]) -> u8
-    ensures { λ r. ⌜ Told (Shows (now (topic .entry)) (restOf (now (domain .entry))) (readTopic (now (domain .entry)) (now (topic .entry)))) showTopic (now (out .entry)) r (now (out .exit)) ⌝ }
+    ensures { λ r. ⌜ Told (ReadsTopic (now (domain .entry)) (now (topic .entry))) showTopic (now (out .entry)) r (now (out .exit)) ⌝ }
 {
     let t = topic::read(domain, topic);
     reply::judgements::tell_topic(out, t)
@@ -35,7 +32,7 @@ pub extern "C" fn homie5_topic_flag(domain: &[u8], topic: &[u8], out: &mut [u64]
 // The datatype of a name.
 #[no_mangle]
 pub extern "C" fn homie5_is_datatype(name: &[u8], out: &mut [u64]) -> u8
-    ensures { λ r. ⌜ Told (λ a. named a ≡ datatypeNamed (now (name .entry))) showNamed (now (out .entry)) r (now (out .exit)) ⌝ }
+    ensures { λ r. ⌜ Told (NamesDatatype (now (name .entry))) showNamed (now (out .entry)) r (now (out .exit)) ⌝ }
 {
     let a = payload::read_datatype(name);
     reply::judgements::tell_named(out, a)
@@ -44,18 +41,18 @@ pub extern "C" fn homie5_is_datatype(name: &[u8], out: &mut [u64]) -> u8
 // Judges a format, or that none is given, and says what is kept of it.
 #[no_mangle]
 pub extern "C" fn homie5_is_format(datatype: u8, given: u8, format: &[u8], out: &mut [u64]) -> u8
-    ensures { λ r. ⌜ Told (λ a. keptBytes (now (format .entry)) a ≡ keptFormat (datatypeAt datatype) (asked (isSet given) (now (format .entry)))) showFormat (now (out .entry)) r (now (out .exit)) ⌝ }
+    ensures { λ r. ⌜ Told (KeepsFormat datatype given (now (format .entry))) showFormat (now (out .entry)) r (now (out .exit)) ⌝ }
 {
     let a = payload::judge_format(payload::datatype_at(datatype), given != 0, format);
     reply::judgements::tell_format(out, a)
 }
 
-// Judges a payload by datatype and format.
+// Judges a payload by datatype and format, or where no format is given.
 #[no_mangle]
-pub extern "C" fn homie5_is_payload(datatype: u8, format: &[u8], payload: &[u8]) -> u8
-    ensures { λ r. ⌜ r ≡ bit (isPayload (datatypeAt datatype) (now (format .entry)) (now (payload .entry))) ⌝ }
+pub extern "C" fn homie5_is_payload(datatype: u8, given: u8, format: &[u8], payload: &[u8]) -> u8
+    ensures { λ r. ⌜ r ≡ bit (isPayloadOf (datatypeAt datatype) (givenFormat (isSet given) (now (format .entry))) (now (payload .entry))) ⌝ }
 {
-    if payload::judge(payload::datatype_at(datatype), format, payload) {
+    if payload::judge_payload(payload::datatype_at(datatype), given != 0, format, payload) {
         return 1;
     }
     0
@@ -64,7 +61,7 @@ pub extern "C" fn homie5_is_payload(datatype: u8, format: &[u8], payload: &[u8])
 // Judges a description of the device `own`.
 #[no_mangle]
 pub extern "C" fn homie5_description_judge(own: &[u8], text: &[u8]) -> u8
-    ensures { λ r. ⌜ r ≡ cond (holds (rules (now (own .entry)) (now (text .entry)))) 0 15 ⌝ }
+    ensures { λ r. ⌜ r ≡ refusalNumber (describe (now (own .entry)) (now (text .entry))) ⌝ }
 {
     match description::judge(own, text) {
         Verdict::Taken => 0,
@@ -75,7 +72,7 @@ pub extern "C" fn homie5_description_judge(own: &[u8], text: &[u8]) -> u8
 // What a description of the device `own` declares.
 #[no_mangle]
 pub extern "C" fn homie5_description_read(own: &[u8], text: &[u8], out: &mut [u64]) -> u8
-    ensures { λ r. ⌜ Told (λ a. meaning (now (text .entry)) a ≡ describe (now (own .entry)) (now (text .entry))) showDescription (now (out .entry)) r (now (out .exit)) ⌝ }
+    ensures { λ r. ⌜ Told (ReadsDescription (now (own .entry)) (now (text .entry))) showDescription (now (out .entry)) r (now (out .exit)) ⌝ }
 {
     let a = description::describe(own, text);
     reply::descriptions::tell_description(out, a)
@@ -89,7 +86,7 @@ pub extern "C" fn homie5_description_property(
     i: usize,
     out: &mut [u64],
 ) -> u8
-    ensures { λ r. ⌜ Told (λ a. meaning (now (text .entry)) a ≡ describe (now (own .entry)) (now (text .entry))) (λ a. showDeclared (now (text .entry)) a i) (now (out .entry)) r (now (out .exit)) ⌝ }
+    ensures { λ r. ⌜ Told (ReadsDescription (now (own .entry)) (now (text .entry))) (λ a. showDeclared (now (text .entry)) a i) (now (out .entry)) r (now (out .exit)) ⌝ }
 {
     let d = description::describe(own, text);
     reply::descriptions::tell_declared(out, text, d, i)

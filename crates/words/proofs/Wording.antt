@@ -4,7 +4,7 @@ use mathlib.Core.Path.{_≡_}
 use mathlib.Core.List.{List}
 use borrow.Author.Tests.{le-leb, lt-leb}
 use Rattle.text.specs.Ascii.{ascii}
-use Rattle.lines.specs.Number.{decimal}
+use Rattle.lines.specs.Number.{decimalText}
 use Rattle.lines.specs.Out.{Puts, Adds}
 use Rattle.lines.proofs.Adding.{put-adds, adds-then}
 use Rattle.payload.specs.declared.Datatype.{Datatype}
@@ -23,15 +23,15 @@ put-state x e p = rw e p
 pub put-datatype : {d d′ : List ℕ} {at r : ℕ} {s : Datatype} (x : Datatype) → s ≡ x → Puts d at (nameOf x) r d′ → Puts d at (nameOf s) r d′
 put-datatype x e p = rw e p
 
-pub adds-refusal : {d d′ d″ : List ℕ} {r r′ : ℕ} (n : ℕ) → Puts d 0 (ascii "refused ") r d′ → Puts d′ r (decimal n) r′ d″ → Adds d 0 (refusal n) r′ d″
+pub adds-refusal : {d d′ d″ : List ℕ} {r r′ : ℕ} (n : ℕ) → Puts d 0 (ascii "refused ") r d′ → Puts d′ r (decimalText n) r′ d″ → Adds d 0 (refusal n) r′ d″
 unfolding refusal
-adds-refusal {d} {d′} {d″} {r} {r′} n p q = adds-then (put-adds d 0 (ascii "refused ") p) (put-adds d′ r (decimal n) q)
+adds-refusal {d} {d′} {d″} {r} {r′} n p q = adds-then (put-adds d 0 (ascii "refused ") p) (put-adds d′ r (decimalText n) q)
 
-pub adds-above : {d d′ : List ℕ} {r : ℕ} (v : ℕ) → 2 ^ 63 ≤ v → Puts d 0 (decimal (v - 2 ^ 63)) r d′ → Adds d 0 (signed v) r d′
+pub adds-above : {d d′ : List ℕ} {r : ℕ} (v : ℕ) → 2 ^ 63 ≤ v → Puts d 0 (decimalText (v - 2 ^ 63)) r d′ → Adds d 0 (signed v) r d′
 unfolding signed
-adds-above {d} {d′} {r} v h p = rw (le-leb (2 ^ 63) v h) (put-adds d 0 (decimal (v - 2 ^ 63)) p)
+adds-above {d} {d′} {r} v h p = rw (le-leb (2 ^ 63) v h) (put-adds d 0 (decimalText (v - 2 ^ 63)) p)
 
-pub adds-below : {d d′ d″ : List ℕ} {r r′ : ℕ} (v : ℕ) → v < 2 ^ 63 → Puts d 0 (ascii "-") r d′ → Puts d′ r (decimal (2 ^ 63 - v)) r′ d″ → Adds d 0 (signed v) r′ d″
+pub adds-below : {d d′ d″ : List ℕ} {r r′ : ℕ} (v : ℕ) → v < 2 ^ 63 → Puts d 0 (ascii "-") r d′ → Puts d′ r (decimalText (2 ^ 63 - v)) r′ d″ → Adds d 0 (signed v) r′ d″
 unfolding signed
 adds-below {d} {d′} {d″} {r} {r′} v h p q =
-    rw (lt-leb (2 ^ 63) v h) (adds-then (put-adds d 0 (ascii "-") p) (put-adds d′ r (decimal (2 ^ 63 - v)) q))
+    rw (lt-leb (2 ^ 63) v h) (adds-then (put-adds d 0 (ascii "-") p) (put-adds d′ r (decimalText (2 ^ 63 - v)) q))

@@ -4,12 +4,12 @@ use mathlib.Core.List.{List, _++_}
 use mathlib.Core.Bool.{cond}
 use lib.Dec.{leb}
 use Rattle.text.specs.Ascii.{ascii}
-use Rattle.lines.specs.Number.{decimal}
+use Rattle.lines.specs.Number.{decimalText}
 
 -- "`refused N`"
 unfoldable pub refusal : ℕ → List ℕ
-refusal n = ascii "refused " ++ decimal n
+refusal n = ascii "refused " ++ decimalText n
 
 -- the whole number that is shown plus 2^63, with a sign where it is below 0
 unfoldable pub signed : ℕ → List ℕ
-signed v = cond (leb (2 ^ 63) v) (decimal (v - 2 ^ 63)) (ascii "-" ++ decimal (2 ^ 63 - v))
+signed v = cond (leb (2 ^ 63) v) (decimalText (v - 2 ^ 63)) (ascii "-" ++ decimalText (2 ^ 63 - v))

@@ -3,11 +3,11 @@ ghost use Rattle.lines.specs.Hex.{hexOf};
 ghost use Rattle.lines.specs.Out.{Puts, Adds};
 ghost use Rattle.payload.specs.Datatypes.{nameOf};
 ghost use Rattle.rules.specs.States.{wordOf};
-ghost use Rattle.topic.specs.Meaning.{bytesAt};
+ghost use Rattle.text.specs.Places.{bytesAt};
 ghost use Rattle.words.specs.Words.{refusal, signed};
 use payload::Datatype;
 use rules::DeviceState;
-use topic::Place;
+use text::Place;
 
 pub fn state(out: &mut [u8], at: usize, s: DeviceState) -> usize
     ensures { λ r. ⌜ Puts (now (out .entry)) at (wordOf s) r (now (out .exit)) ⌝ }
@@ -41,14 +41,14 @@ pub fn datatype(out: &mut [u8], at: usize, d: Datatype) -> usize
 pub fn id(out: &mut [u8], at: usize, mem: &[u8], p: Place) -> usize
     ensures { λ r. ⌜ Puts (now (out .entry)) at (bytesAt (now (mem .entry)) p) r (now (out .exit)) ⌝ }
 {
-    lines::out::put(out, at, fields::slice(mem, p.start, p.end))
+    lines::out::put(out, at, text::slice(mem, p.start, p.end))
 }
 
 // The bytes at a place, in hex.
 pub fn hex(out: &mut [u8], at: usize, mem: &[u8], p: Place) -> usize
     ensures { λ r. ⌜ Puts (now (out .entry)) at (hexOf (bytesAt (now (mem .entry)) p)) r (now (out .exit)) ⌝ }
 {
-    lines::hex::encode(out, at, fields::slice(mem, p.start, p.end))
+    lines::hex::encode(out, at, text::slice(mem, p.start, p.end))
 }
 
 // `refused` and the number.

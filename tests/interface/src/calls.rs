@@ -105,7 +105,7 @@ impl Question {
             Question::States(id) => table.device(id).map(|device| states(table, device)),
             Question::Root(id) => Ok(optional(described(table, id)?.and_then(|d| d.root.as_deref()).map(text))),
             Question::Parent(id) => Ok(optional(described(table, id)?.and_then(|d| d.parent.as_deref()).map(text))),
-            Question::Version(id) => Ok(optional(described(table, id)?.map(|d| Value::Number(stands(d.version))))),
+            Question::Version(id) => Ok(optional(described(table, id)?.map(|d| Value::Number(d.version as u64)))),
             Question::ValuesHeld(id) => table.filled(id).map(|n| vec![number(n)]),
             Question::Property(id, i) => table.property(id, *i as u64).map(declared),
             Question::Lane(ids, kind) => lane(table, ids, *kind),
@@ -125,11 +125,6 @@ fn text(bytes: &[u8]) -> Value {
 fn optional(value: Option<Value>) -> Vec<Value> {
     let present = Value::Number(u64::from(value.is_some()));
     [Some(present), value].into_iter().flatten().collect()
-}
-
-/// A version plus 2^63.
-pub fn stands(version: i64) -> u64 {
-    (i128::from(version) + (1 << 63)) as u64
 }
 
 pub fn datatype_number(datatype: Datatype) -> u64 {

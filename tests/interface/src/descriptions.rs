@@ -1,7 +1,7 @@
 //! Descriptions: judged, and what they declare, with where it stands in the text.
 
 use crate::answer::same_values;
-use crate::calls::{datatype_number, stands};
+use crate::calls::datatype_number;
 use crate::guarded::{Out, VALUES};
 use crate::questions::some_number;
 use crate::raw;
@@ -85,7 +85,7 @@ fn require(holds: bool, what: &str) -> Outcome {
 fn is_head(text: &[u8], values: &[u64], expected: &Description) -> Outcome {
     let relative =
         |shown: &[u64], name: &str, id: Option<&[u8]>| is_optional(text, shown, id) && is_field(text, shown, name);
-    require(values[0] == stands(expected.version), "the version")?;
+    require(values[0] == expected.version as u64, "the version")?;
     require(relative(&values[1..3], "root", expected.root.as_deref()), "the root")?;
     require(relative(&values[3..5], "parent", expected.parent.as_deref()), "the parent")?;
     require(values[5] == expected.properties.len() as u64, "the number of properties")

@@ -133,13 +133,16 @@ fn formats(random: &mut Random, tally: &mut Tally) -> Outcome {
 
 fn payloads(random: &mut Random, tally: &mut Tally) -> Outcome {
     let (datatype, number) = numbered(random);
+    let given = random.pick(&[0, 1, 1, 1, 2, 255]);
     let format = if random.once_in(10) { near_format(random, datatype) } else { format(random, datatype) };
-    let payload = near_payload(random, datatype, &format);
-    let expected = u8::from(is_payload(datatype, &format, &payload));
-    let answer = raw::is_payload(number, &format, &payload);
+    let meant = if given == 0 { datatype.missing_format() } else { Some(&format[..]) };
+    let payload = near_payload(random, datatype, meant.unwrap_or(&format));
+    let expected = u8::from(meant.is_some_and(|meant| is_payload(datatype, meant, &payload)));
+    let answer = raw::is_payload(number, given, &format, &payload);
     tally.count("is_payload", answer);
     if answer == expected {
         return Ok(());
     }
-    Err(format!("payload {number} {} {}: answers {answer}; expected {expected}", hex(&format), hex(&payload)))
+    let (format, payload) = (hex(&format), hex(&payload));
+    Err(format!("payload {number} {given} {format} {payload}: answers {answer}; expected {expected}"))
 }

@@ -95,9 +95,9 @@ pub fn is_format(datatype: u8, given: u8, format: &[u8], out: &mut [u64]) -> u8 
     })
 }
 
-pub fn is_payload(datatype: u8, format: &[u8], payload: &[u8]) -> u8 {
+pub fn is_payload(datatype: u8, given: u8, format: &[u8], payload: &[u8]) -> u8 {
     fenced([format, payload], |[format, payload]| unsafe {
-        sys::homie5_is_payload(datatype, format.as_ptr(), format.len(), payload.as_ptr(), payload.len())
+        sys::homie5_is_payload(datatype, given, format.as_ptr(), format.len(), payload.as_ptr(), payload.len())
     })
 }
 

@@ -22,17 +22,17 @@ pub const DESCRIPTION: &str = r#"{"homie":"5.0","version":-9223372036854775808,"
 /// The properties that `DESCRIPTION` declares, in their order.
 pub fn declared() -> [Property<'static>; 3] {
     let boolean = Property {
-        node: b"a",
-        id: b"on",
+        node: "a",
+        id: "on",
         datatype: Datatype::Boolean,
         format: b"false,true",
         settable: true,
         retained: true,
     };
-    let integer = Property { id: b"level", datatype: Datatype::Integer, format: b":", settable: false, ..boolean };
+    let integer = Property { id: "level", datatype: Datatype::Integer, format: b":", settable: false, ..boolean };
     let word = Property {
-        node: b"b",
-        id: b"mode",
+        node: "b",
+        id: "mode",
         datatype: Datatype::Enum,
         format: b"low,high",
         settable: false,

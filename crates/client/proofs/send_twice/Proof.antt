@@ -7,45 +7,40 @@ use Rattle.client.proofs.send_twice.Lts as lts
 use Rattle.table.proofs.message.Reads as message-reads
 use Rattle.table.proofs.open.Reads as open-reads
 use Rattle.table.proofs.step_back.Reads as step-back-reads
+use Rattle.questions.proofs.count.Reads as count-reads
 
--- src/lib.rt:18:9
 open-requires : tie.Need-open-requires
 open-requires c κs = search needs
 
 enum-told : tie.Need-enum-told
 enum-told c = search needs
 
--- src/lib.rt:20:9
 enum-told-2 : tie.Need-enum-told-2
 enum-told-2 c = search needs
 
--- src/lib.rt:20:9
 same-length : tie.Need-same-length
 same-length c = search needs
 
--- src/lib.rt:20:9
 returns : tie.Need-returns
 returns c = refused-right _ _ _ _ _ _ (c .before .before .before .before .«open» .ensures) (c .enum-told2 .given .1)
 
--- src/lib.rt:22:9
 message-requires : tie.Need-message-requires
 message-requires c κs = search needs
 
--- src/lib.rt:23:5
 step-back-requires : tie.Need-step-back-requires
 step-back-requires c κs = search needs
 
--- src/lib.rt:24:9
 message-requires-2 : tie.Need-message-requires-2
 message-requires-2 c κs = search needs
 
--- src/lib.rt:15:1
+count-requires : tie.Need-count-requires
+count-requires c κs = search needs
+
 same-length-2 : tie.Need-same-length-2
 same-length-2 c = search needs
 
--- src/lib.rt:15:1
 returns-2 : tie.Need-returns-2
-returns-2 c = sent-right _ _ _ _ _ _ _ _ _ _ _ (c .before .before .before .before .before .before .before .before .before .before .before .before .before .before .before .before .«open» .ensures) (c .before .before .before .before .before .before .before .before .before .before .before .before .enum-told .given .1) (c .before .before .before .before .before .before .before .before .before .before .message .ensures) (c .before .before .before .before .before .before .step-back .ensures) (c .before .before .message2 .ensures)
+returns-2 c = sent-right _ _ _ _ _ _ _ _ _ _ _ _ (c .before .before .before .before .before .before .before .before .before .before .before .before .before .before .before .before .before .before .«open» .ensures) (c .before .before .before .before .before .before .before .before .before .before .before .before .before .before .enum-told .given .1) (c .before .before .before .before .before .before .before .before .before .before .before .before .message .ensures) (c .before .before .before .before .before .before .before .before .step-back .ensures) (c .before .before .before .before .message2 .ensures) (c .count .ensures)
 
 pub send-twice-spec : {M : Type 1} → statement M
 send-twice-spec =
@@ -59,5 +54,6 @@ send-twice-spec =
     message-requires
     step-back-requires
     message-requires-2
+    count-requires
     same-length-2
     returns-2)

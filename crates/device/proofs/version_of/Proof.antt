@@ -11,13 +11,13 @@ is-set-requires c κs = search needs
 returns : tie.Need-returns
 returns c = no-version (c .before .before .before .args .room .now) (told (c .before .is-set .ensures) (not-true _ (c .if1 .taken)))
 
-number-at-requires : tie.Need-number-at-requires
-number-at-requires c κs = search needs
+get-requires : tie.Need-get-requires
+get-requires c κs = search needs
 
 returns-2 : tie.Need-returns-2
 returns-2 c =
     let s = c .before .before in
-    version-is (s .before .before .args .room .now) _ (told (s .is-set .ensures) (not-false _ (c .before .if1 .left))) (c .number-at .ensures)
+    version-is (s .before .before .args .room .now) _ (told (s .is-set .ensures) (not-false _ (c .before .if1 .left))) (c .get .ensures .0)
 
 pub version-of-spec : {M : Type 1} → statement M
-version-of-spec = tie.close (tie.spec is-set-requires returns number-at-requires returns-2)
+version-of-spec = tie.close (tie.spec is-set-requires returns get-requires returns-2)

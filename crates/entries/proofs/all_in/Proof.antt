@@ -21,47 +21,36 @@ Inv-loop s of i₀ i = (i ≤ length s + 1) × (allIn (entriesOf s) (entriesOf o
 abbrev μ-loop : tie.MeasureT-loop
 μ-loop s of i₀ i = length s + 1 - i
 
--- src/lib.rt:71:5
 loop-holds : tie.Need-loop-holds Inv-loop μ-loop
 loop-holds c = (omega arith, ap (λ (l : List (List ℕ)). allIn l (entriesOf (c .before .before .args .of .now))) (from-all (c .before .before .args .s .now)))
 
--- src/lib.rt:72:13
 entry-end-requires : tie.Need-entry-end-requires Inv-loop μ-loop
 entry-end-requires c κs = search needs
 
--- src/lib.rt:73:21
 sub-has : tie.Need-sub-has Inv-loop μ-loop
 sub-has c = search needs
 
--- src/lib.rt:73:21
 part-has-start : tie.Need-part-has-start Inv-loop μ-loop
 part-has-start c = search needs
 
--- src/lib.rt:73:21
 part-has-end : tie.Need-part-has-end Inv-loop μ-loop
 part-has-end c = search needs
 
--- src/lib.rt:73:13
 has-requires : tie.Need-has-requires Inv-loop μ-loop
 has-requires c κs = search needs
 
--- src/lib.rt:74:13
 returns : tie.Need-returns Inv-loop μ-loop
 returns c = let s = c .before .before .before .before .before .before .before .before .args .s .now in sym (c .before .before .before .before .before .loop .inv .1 ∙ out-here s (c .before .before .before .before .before .loop .i) (c .before .before .before .entry-end .result) (c .before .before .before .before .loop-test .taken) (c .before .before .before .entry-end .ensures) (entriesOf (c .before .before .before .before .before .before .before .before .args .of .now)) (c .before .has .ensures) (not-true _ (c .if1 .taken)))
 
--- src/lib.rt:76:13
 add-i : tie.Need-add-i Inv-loop μ-loop
 add-i c = search needs
 
--- src/lib.rt:71:5
 loop-less : tie.Need-loop-less Inv-loop μ-loop
 loop-less c = search needs
 
--- src/lib.rt:71:5
 loop-again : tie.Need-loop-again Inv-loop μ-loop
 loop-again c = let s = c .before .before .before .before .before .before .before .before .args .s .now in (search needs, c .before .before .before .before .before .loop .inv .1 ∙ in-here s (c .before .before .before .before .before .loop .i) (c .before .before .before .entry-end .result) (c .before .before .before .before .loop-test .taken) (c .before .before .before .entry-end .ensures) (entriesOf (c .before .before .before .before .before .before .before .before .args .of .now)) (c .before .has .ensures) (not-false _ (c .if1 .left)))
 
--- src/lib.rt:67:1
 returns-2 : tie.Need-returns-2 Inv-loop μ-loop
 returns-2 c = sym (c .before .loop .inv .1 ∙ all-found (c .before .before .before .before .args .s .now) (c .before .loop .i) (c .loop-test .left) (entriesOf (c .before .before .before .before .args .of .now)))
 

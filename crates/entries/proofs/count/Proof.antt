@@ -18,31 +18,24 @@ Inv-loop s n₀ i₀ n i = (i ≤ length s + 1) × (n ≤ i) × (length (entries
 abbrev μ-loop : tie.MeasureT-loop
 μ-loop s n₀ i₀ n i = length s + 1 - i
 
--- src/lib.rt:87:5
 loop-holds : tie.Need-loop-holds Inv-loop μ-loop
 loop-holds c = (omega arith, omega arith, omega (arith, ap length (from-all (c .before .args .s .now))))
 
--- src/lib.rt:88:13
 entry-end-requires : tie.Need-entry-end-requires Inv-loop μ-loop
 entry-end-requires c κs = search needs
 
--- src/lib.rt:88:13
 add-i : tie.Need-add-i Inv-loop μ-loop
 add-i c = search needs
 
--- src/lib.rt:89:9
 add-n : tie.Need-add-n Inv-loop μ-loop
 add-n c = search needs
 
--- src/lib.rt:87:5
 loop-less : tie.Need-loop-less Inv-loop μ-loop
 loop-less c = search needs
 
--- src/lib.rt:87:5
 loop-again : tie.Need-loop-again Inv-loop μ-loop
 loop-again c = let s = c .before .before .before .before .args .s .now in (search needs, search needs, omega (arith, one-here s (c .before .before .loop .i) (c .entry-end .result) (c .before .loop-test .taken) (c .entry-end .ensures)))
 
--- src/lib.rt:82:1
 returns : tie.Need-returns Inv-loop μ-loop
 returns c = omega (arith, no-more (c .before .before .before .args .s .now) (c .before .loop .i) (c .loop-test .left))
 

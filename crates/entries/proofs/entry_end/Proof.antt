@@ -6,23 +6,18 @@ use Rattle.entries.proofs.entry_end.Reads as reads
 use Rattle.entries.proofs.entry_end.Lts as lts
 use Rattle.text.proofs.next_part.Reads as next-part-reads
 
--- src/lib.rt:15:11
 next-part-requires : tie.Need-next-part-requires
 next-part-requires c κs = search needs
 
--- src/lib.rt:18:13
 enum-known-end : tie.Need-enum-known-end
 enum-known-end c = search needs
 
--- src/lib.rt:21:26
 enum-told : tie.Need-enum-told
 enum-told c = search needs
 
--- src/lib.rt:11:1
 returns : tie.Need-returns
 returns c = end-found (c .before .before .before .before .before .args .s .now) (c .before .before .before .before .before .args .at) (c .before .before .before .next-part .ensures) (c .before .end .given .1)
 
--- src/lib.rt:11:1
 returns-2 : tie.Need-returns-2
 returns-2 c = end-none (c .before .before .before .before .args .s .now) (c .before .before .before .before .args .at) (c .before .before .next-part .ensures) (c .enum-told .given .1) (c .before .before .before .before .pre)
 

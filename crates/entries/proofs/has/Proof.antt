@@ -19,47 +19,36 @@ Inv-loop s entry i₀ i = (i ≤ length s + 1) × (isIn entry (entriesOf s) ≡ 
 abbrev μ-loop : tie.MeasureT-loop
 μ-loop s entry i₀ i = length s + 1 - i
 
--- src/lib.rt:56:5
 loop-holds : tie.Need-loop-holds Inv-loop μ-loop
 loop-holds c = (omega arith, ap (isIn (c .before .before .args .entry .now)) (from-all (c .before .before .args .s .now)))
 
--- src/lib.rt:57:13
 entry-end-requires : tie.Need-entry-end-requires Inv-loop μ-loop
 entry-end-requires c κs = search needs
 
--- src/lib.rt:58:30
 sub-same : tie.Need-sub-same Inv-loop μ-loop
 sub-same c = search needs
 
--- src/lib.rt:58:30
 part-same-start : tie.Need-part-same-start Inv-loop μ-loop
 part-same-start c = search needs
 
--- src/lib.rt:58:30
 part-same-end : tie.Need-part-same-end Inv-loop μ-loop
 part-same-end c = search needs
 
--- src/lib.rt:58:12
 same-requires : tie.Need-same-requires Inv-loop μ-loop
 same-requires c κs = search needs
 
--- src/lib.rt:59:13
 returns : tie.Need-returns Inv-loop μ-loop
 returns c = let s = c .before .before .before .before .before .before .before .before .args .s .now in sym (c .before .before .before .before .before .loop .inv .1 ∙ found-here s (c .before .before .before .before .before .loop .i) (c .before .before .before .entry-end .result) (c .before .before .before .before .loop-test .taken) (c .before .before .before .entry-end .ensures) (c .before .before .before .before .before .before .before .before .args .entry .now) (c .before .same .ensures) (c .if1 .taken))
 
--- src/lib.rt:61:13
 add-i : tie.Need-add-i Inv-loop μ-loop
 add-i c = search needs
 
--- src/lib.rt:56:5
 loop-less : tie.Need-loop-less Inv-loop μ-loop
 loop-less c = search needs
 
--- src/lib.rt:56:5
 loop-again : tie.Need-loop-again Inv-loop μ-loop
 loop-again c = let s = c .before .before .before .before .before .before .before .before .args .s .now in (search needs, c .before .before .before .before .before .loop .inv .1 ∙ other-here s (c .before .before .before .before .before .loop .i) (c .before .before .before .entry-end .result) (c .before .before .before .before .loop-test .taken) (c .before .before .before .entry-end .ensures) (c .before .before .before .before .before .before .before .before .args .entry .now) (c .before .same .ensures) (c .if1 .left))
 
--- src/lib.rt:52:1
 returns-2 : tie.Need-returns-2 Inv-loop μ-loop
 returns-2 c = sym (c .before .loop .inv .1 ∙ not-found (c .before .before .before .before .args .s .now) (c .before .loop .i) (c .loop-test .left) (c .before .before .before .before .args .entry .now))
 

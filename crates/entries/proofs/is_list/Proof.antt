@@ -4,7 +4,7 @@ use mathlib.Core.Path.{_≡_, refl, sym, ap, _∙_}
 use mathlib.Core.Bool.{Bool, true, not, _&&_}
 use native.Mathlib.Omega.{arith}
 use lib.ListN.{length}
-use Rattle.text.specs.Bytes.{part}
+use Rattle.text.specs.Bytes.{slice}
 use Rattle.entries.specs.Entries.{isIn, isList}
 use Rattle.entries.proofs.From.{good, list-is, empty-here, step-here, found-here, other-here, none-left, not-found}
 use borrow.Author.Needs.{needs}
@@ -16,7 +16,7 @@ use Rattle.entries.proofs.entry_end.Reads as entry-end-reads
 use Rattle.text.proofs.same.Reads as same-reads
 
 abbrev Inv-loop : tie.InvT-loop
-Inv-loop s ok₀ i e j₀ ok j = (j ≤ length s + 1) × (ok ≡ true) × (isIn (part s i e) (from s (e + 1)) ≡ isIn (part s i e) (from s j))
+Inv-loop s ok₀ i e j₀ ok j = (j ≤ length s + 1) × (ok ≡ true) × (isIn (slice s i e) (from s (e + 1)) ≡ isIn (slice s i e) (from s j))
 
 abbrev μ-loop : tie.MeasureT-loop
 μ-loop s ok₀ i e j₀ ok j = length s + 1 - j
@@ -27,100 +27,79 @@ Inv-entries s ok₀ i₀ ok i = (i ≤ length s + 1) × (ok ≡ true) × (isList
 abbrev μ-entries : tie.MeasureT-entries
 μ-entries s ok₀ i₀ ok i = length s + 1 - i
 
--- src/lib.rt:31:5
 entries-holds : tie.Need-entries-holds Inv-loop μ-loop Inv-entries μ-entries
 entries-holds c = (omega arith, refl, sym (list-is _))
 
--- src/lib.rt:32:13
 entry-end-requires : tie.Need-entry-end-requires Inv-loop μ-loop Inv-entries μ-entries
 entry-end-requires c κs = search needs
 
--- src/lib.rt:37:21
 add-j : tie.Need-add-j Inv-loop μ-loop Inv-entries μ-entries
 add-j c = search needs
 
--- src/lib.rt:38:9
 loop-holds : tie.Need-loop-holds Inv-loop μ-loop Inv-entries μ-entries
 loop-holds c = (search needs, c .before .before .before .entries .inv .1, refl)
 
--- src/lib.rt:39:17
 entry-end-requires-2 : tie.Need-entry-end-requires-2 Inv-loop μ-loop Inv-entries μ-entries
 entry-end-requires-2 c κs = search needs
 
--- src/lib.rt:40:27
 sub-same : tie.Need-sub-same Inv-loop μ-loop Inv-entries μ-entries
 sub-same c = search needs
 
--- src/lib.rt:40:27
 part-same-start : tie.Need-part-same-start Inv-loop μ-loop Inv-entries μ-entries
 part-same-start c = search needs
 
--- src/lib.rt:40:27
 part-same-end : tie.Need-part-same-end Inv-loop μ-loop Inv-entries μ-entries
 part-same-end c = search needs
 
--- src/lib.rt:40:37
 sub-same-2 : tie.Need-sub-same-2 Inv-loop μ-loop Inv-entries μ-entries
 sub-same-2 c = search needs
 
--- src/lib.rt:40:37
 part-same-start-2 : tie.Need-part-same-start-2 Inv-loop μ-loop Inv-entries μ-entries
 part-same-start-2 c = search needs
 
--- src/lib.rt:40:37
 part-same-end-2 : tie.Need-part-same-end-2 Inv-loop μ-loop Inv-entries μ-entries
 part-same-end-2 c = search needs
 
--- src/lib.rt:40:16
 same-requires : tie.Need-same-requires Inv-loop μ-loop Inv-entries μ-entries
 same-requires c κs = search needs
 
--- src/lib.rt:44:17
 add-j-2 : tie.Need-add-j-2 Inv-loop μ-loop Inv-entries μ-entries
 add-j-2 c = search needs
 
--- src/lib.rt:38:9
 loop-less : tie.Need-loop-less Inv-loop μ-loop Inv-entries μ-entries
 loop-less c = search needs
 
--- src/lib.rt:38:9
 loop-again : tie.Need-loop-again Inv-loop μ-loop Inv-entries μ-entries
 loop-again c = let s = c .before .before .before .before .before .before .before .before .before .before .before .before .args .s .now in
-    (search needs, c .before .before .before .before .before .before .loop .inv .1, c .before .before .before .before .before .before .loop .inv .2 ∙ other-here s (c .before .before .before .before .before .before .loop .j) (c .before .before .before .before .entry-end2 .result) (c .before .before .before .before .before .loop-test .taken) (c .before .before .before .before .entry-end2 .ensures) (part s (c .before .before .before .before .before .before .before .before .before .before .entries .i) (c .before .before .before .before .before .before .before .before .entry-end .result)) (c .before .same .ensures) (c .if2 .left))
+    (search needs, c .before .before .before .before .before .before .loop .inv .1, c .before .before .before .before .before .before .loop .inv .2 ∙ other-here s (c .before .before .before .before .before .before .loop .j) (c .before .before .before .before .entry-end2 .result) (c .before .before .before .before .before .loop-test .taken) (c .before .before .before .before .entry-end2 .ensures) (slice s (c .before .before .before .before .before .before .before .before .before .before .entries .i) (c .before .before .before .before .before .before .before .before .entry-end .result)) (c .before .same .ensures) (c .if2 .left))
 
--- src/lib.rt:46:13
 add-i : tie.Need-add-i Inv-loop μ-loop Inv-entries μ-entries
 add-i c = search needs
 
--- src/lib.rt:31:5
 entries-less : tie.Need-entries-less Inv-loop μ-loop Inv-entries μ-entries
 entries-less c = search needs
 
--- src/lib.rt:31:5
 entries-again : tie.Need-entries-again Inv-loop μ-loop Inv-entries μ-entries
 entries-again c = let s = c .before .before .before .before .before .before .before .args .s .now in
     let e = c .before .before .before .entry-end .result in (
       search needs,
       c .before .loop .inv .1,
       c .before .before .before .before .before .entries .inv .2 ∙ step-here s (c .before .before .before .before .before .entries .i) e (c .before .before .before .before .entries-test .taken) (c .before .before .before .entry-end .ensures) (omega arith)
-          ∙ ap (λ (t : Bool). not t && good (from s (e + 1))) (c .before .loop .inv .2 ∙ not-found s (c .before .loop .j) (c .loop-test .left) (part s (c .before .before .before .before .before .entries .i) e)),
+          ∙ ap (λ (t : Bool). not t && good (from s (e + 1))) (c .before .loop .inv .2 ∙ not-found s (c .before .loop .j) (c .loop-test .left) (slice s (c .before .before .before .before .before .entries .i) e)),
     )
 
--- src/lib.rt:26:1
 returns : tie.Need-returns Inv-loop μ-loop Inv-entries μ-entries
 returns c = c .before .entries .inv .1 ∙ sym (c .before .entries .inv .2 ∙ none-left (c .before .before .before .args .s .now) (c .before .entries .i) (c .entries-test .left))
 
--- src/lib.rt:26:1
 returns-2 : tie.Need-returns-2 Inv-loop μ-loop Inv-entries μ-entries
 returns-2 c = sym (c .before .before .before .entries .inv .2 ∙ empty-here (c .before .before .before .before .before .args .s .now) (c .before .before .before .entries .i) (c .before .entry-end .result) (c .before .before .entries-test .taken) (c .before .entry-end .ensures) (c .if1 .taken))
 
--- src/lib.rt:26:1
 returns-3 : tie.Need-returns-3 Inv-loop μ-loop Inv-entries μ-entries
 returns-3 c = let s = c .before .before .before .before .before .before .before .before .before .before .before .before .args .s .now in
     let e = c .before .before .before .before .before .before .before .before .entry-end .result in
     sym (c .before .before .before .before .before .before .before .before .before .before .entries .inv .2 ∙ step-here s (c .before .before .before .before .before .before .before .before .before .before .entries .i) e (c .before .before .before .before .before .before .before .before .before .entries-test .taken) (c .before .before .before .before .before .before .before .before .entry-end .ensures) (omega arith)
     ∙ ap (λ (t : Bool). not t && good (from s (e + 1)))
-    (c .before .before .before .before .before .before .loop .inv .2 ∙ found-here s (c .before .before .before .before .before .before .loop .j) (c .before .before .before .before .entry-end2 .result) (c .before .before .before .before .before .loop-test .taken) (c .before .before .before .before .entry-end2 .ensures) (part s (c .before .before .before .before .before .before .before .before .before .before .entries .i) e) (c .before .same .ensures) (c .if2 .taken)))
+    (c .before .before .before .before .before .before .loop .inv .2 ∙ found-here s (c .before .before .before .before .before .before .loop .j) (c .before .before .before .before .entry-end2 .result) (c .before .before .before .before .before .loop-test .taken) (c .before .before .before .before .entry-end2 .ensures) (slice s (c .before .before .before .before .before .before .before .before .before .before .entries .i) e) (c .before .same .ensures) (c .if2 .taken)))
 
 pub is-list-spec : {M : Type 1} → statement M
 is-list-spec =

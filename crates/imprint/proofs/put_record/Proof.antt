@@ -3,23 +3,23 @@ use borrow.Author.Needs.{needs}
 use Rattle.imprint.proofs.put_record.Statement.{statement}
 use Rattle.imprint.proofs.put_record.Tie as tie
 
+add-put-text : tie.Need-add-put-text
+add-put-text c = search needs
+
 text-at-requires : tie.Need-text-at-requires
 text-at-requires c κs = search needs
 
 put-text-requires : tie.Need-put-text-requires
 put-text-requires c κs = search needs
 
-add-put-text : tie.Need-add-put-text
-add-put-text c = search needs
+add-put-text-2 : tie.Need-add-put-text-2
+add-put-text-2 c = search needs
 
 text-at-requires-2 : tie.Need-text-at-requires-2
 text-at-requires-2 c κs = search needs
 
 put-text-requires-2 : tie.Need-put-text-requires-2
 put-text-requires-2 c κs = search needs
-
-add-put-traits : tie.Need-add-put-traits
-add-put-traits c = search needs
 
 datatype-code-requires : tie.Need-datatype-code-requires
 datatype-code-requires c κs = search needs
@@ -46,12 +46,12 @@ pub put-record-spec : {M : Type 1} → statement M
 put-record-spec =
     tie.close
     (tie.spec
+    add-put-text
     text-at-requires
     put-text-requires
-    add-put-text
+    add-put-text-2
     text-at-requires-2
     put-text-requires-2
-    add-put-traits
     datatype-code-requires
     put-traits-requires
     add-put-format

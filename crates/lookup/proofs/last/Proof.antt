@@ -14,12 +14,12 @@ returns : tie.Need-returns
 unfolding lastIs
 returns c = never _ _ _ (c .before .before .cut .ensures) (c .before .byte .ensures) (c .if1 .taken)
 
-number-at-requires : tie.Need-number-at-requires
-number-at-requires c κs = search needs
+get-requires : tie.Need-get-requires
+get-requires c κs = search needs
 
 returns-2 : tie.Need-returns-2
 unfolding lastIs
-returns-2 c = at-time _ _ _ (c .before .before .before .cut .ensures) (c .before .before .byte .ensures) _ (c .before .if1 .left) (c .number-at .ensures)
+returns-2 c = at-time _ _ _ (c .before .before .before .cut .ensures) (c .before .before .byte .ensures) _ (c .before .if1 .left) (c .get .ensures .0)
 
 pub last-spec : {M : Type 1} → statement M
-last-spec = tie.close (tie.spec cut-requires byte-requires returns number-at-requires returns-2)
+last-spec = tie.close (tie.spec cut-requires byte-requires returns get-requires returns-2)

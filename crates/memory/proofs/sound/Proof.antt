@@ -3,7 +3,7 @@ use native.Mathlib.Omega.{arith}
 use mathlib.Core.Path.{sym, subst}
 use borrow.Author.Tests.{not-true, not-false}
 use borrow.Author.Needs.{needs}
-use Rattle.memory.specs.Sound.{Orderly}
+use Rattle.memory.specs.Sound.{Permutation}
 use Rattle.memory.specs.Layout.{slot}
 use Rattle.memory.proofs.Judge.{denied, likewise}
 use Rattle.memory.proofs.sound.Statement.{statement}
@@ -21,14 +21,14 @@ shared-slice-read-wide c = omega (arith, c .before .before .header .ensures .0 (
 wide-requires : tie.Need-wide-requires
 wide-requires c κs = search needs
 
-orderly-requires : tie.Need-orderly-requires
-orderly-requires c κs = omega (arith, c .before .before .before .header .ensures .0 (not-false _ (c .before .before .if1 .left)), c .wide .ensures .0)
+permuted-requires : tie.Need-permuted-requires
+permuted-requires c κs = omega (arith, c .before .before .before .header .ensures .0 (not-false _ (c .before .before .if1 .left)), c .wide .ensures .0)
 
 returns-2 : tie.Need-returns-2
 returns-2 c = let m = c .before .before .before .before .before .before .args .mem .now in
-    likewise (c .orderly .ensures)
-    (λ o. record { header = c .before .before .before .before .header .ensures .0 (not-false _ (c .before .before .before .if1 .left)); orderly = subst (λ (d : ℕ). Orderly d (slot m)) (c .before .wide .ensures .0) o })
-    (λ s. subst (λ (d : ℕ). Orderly d (slot m)) (sym (c .before .wide .ensures .0)) (s .orderly))
+    likewise (c .permuted .ensures)
+    (λ o. record { header = c .before .before .before .before .header .ensures .0 (not-false _ (c .before .before .before .if1 .left)); permuted = subst (λ (d : ℕ). Permutation d (slot m)) (c .before .wide .ensures .0) o })
+    (λ s. subst (λ (d : ℕ). Permutation d (slot m)) (sym (c .before .wide .ensures .0)) (s .permuted))
 
 pub sound-spec : {M : Type 1} → statement M
 sound-spec =
@@ -38,5 +38,5 @@ sound-spec =
     returns
     shared-slice-read-wide
     wide-requires
-    orderly-requires
+    permuted-requires
     returns-2)

@@ -7,7 +7,7 @@ use Rattle.json.proofs.Bytes.{inside=}
 use Rattle.json.proofs.Members.{gets}
 use Rattle.fields.specs.Values.{members}
 use Rattle.fields.proofs.Walk.{Walking, falls}
-use Rattle.properties.specs.Entries.{view, putAll}
+use Rattle.properties.specs.Entries.{view, addProperties}
 use Rattle.nodes.specs.Nodes.{propertiesOf}
 use Rattle.nodes.proofs.Nodes.{adds-none, adds-first, adds-done, adds-more, of-none, of-more}
 use borrow.Author.Needs.{needs}
@@ -15,7 +15,7 @@ use Rattle.nodes.proofs.add_nodes.Statement.{statement}
 use Rattle.nodes.proofs.add_nodes.Tie as tie
 
 abbrev Inv-loop : tie.InvT-loop
-Inv-loop s at l₀ i₀ l i = Walking (memberAt s) (λ ms. putAll (propertiesOf s ms) (view s l)) (length s) i (putAll (propertiesOf s (members s at)) (view s l₀))
+Inv-loop s at l₀ i₀ l i = Walking (memberAt s) (λ ms. addProperties (propertiesOf s ms) (view s l)) (length s) i (addProperties (propertiesOf s (members s at)) (view s l₀))
 
 abbrev μ-loop : tie.MeasureT-loop
 μ-loop s at l₀ i₀ l i = length s - i

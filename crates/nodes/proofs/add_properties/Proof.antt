@@ -7,7 +7,7 @@ use Rattle.json.proofs.Bytes.{inside=}
 use Rattle.json.proofs.Members.{gets}
 use Rattle.fields.specs.Values.{members}
 use Rattle.fields.proofs.Walk.{Walking, falls}
-use Rattle.properties.specs.Entries.{view, putAll}
+use Rattle.properties.specs.Entries.{view, addProperties}
 use Rattle.nodes.specs.Nodes.{propertiesAmong}
 use Rattle.nodes.proofs.Nodes.{adds-none, adds-first, adds-done, adds-more, among-none, among-more, put-one}
 use borrow.Author.Needs.{needs}
@@ -15,7 +15,7 @@ use Rattle.nodes.proofs.add_properties.Statement.{statement}
 use Rattle.nodes.proofs.add_properties.Tie as tie
 
 abbrev Inv-loop : tie.InvT-loop
-Inv-loop s node at l₀ i₀ l i = Walking (memberAt s) (λ ms. putAll (propertiesAmong s node ms) (view s l)) (length s) i (putAll (propertiesAmong s node (members s at)) (view s l₀))
+Inv-loop s node at l₀ i₀ l i = Walking (memberAt s) (λ ms. addProperties (propertiesAmong s node ms) (view s l)) (length s) i (addProperties (propertiesAmong s node (members s at)) (view s l₀))
 
 abbrev μ-loop : tie.MeasureT-loop
 μ-loop s node at l₀ i₀ l i = length s - i

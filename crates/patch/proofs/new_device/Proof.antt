@@ -18,16 +18,16 @@ state-code-requires c κs = search needs
 array-write-bytes : tie.Need-array-write-bytes
 array-write-bytes c = search needs
 
-slice-aggregate-write-number : tie.Need-slice-aggregate-write-number
-slice-aggregate-write-number c = search needs
+slice-aggregate-set : tie.Need-slice-aggregate-set
+slice-aggregate-set c = search needs
 
-write-number-requires : tie.Need-write-number-requires
-write-number-requires c κs = simp length-set (omega arith)
+set-requires : tie.Need-set-requires
+set-requires c κs = search needs
 
 returns : tie.Need-returns
 returns c =
     let a = c .before .before .before .before .before .before .before .before .args in
-    new-written (replicate 43 0) _ _ (take 32 (a .id .now)) (a .s) _ (a .time) refl (cut 32 (a .id .now)) (c .before .before .before .state-code .ensures) (omega arith) (c .before .before .before .before .before .write-text .ensures) (c .before .write-number .ensures)
+    new-written (replicate 404 0) _ _ (take 32 (a .id .now)) (a .s) _ (a .time) refl (cut 32 (a .id .now)) (c .before .before .before .state-code .ensures) (omega arith) (c .before .before .before .before .before .write-text .ensures) (c .before .set .ensures .written (simp length-set (omega arith)))
 
 pub new-device-spec : {M : Type 1} → statement M
 new-device-spec =
@@ -37,6 +37,6 @@ new-device-spec =
     write-text-requires
     state-code-requires
     array-write-bytes
-    slice-aggregate-write-number
-    write-number-requires
+    slice-aggregate-set
+    set-requires
     returns)

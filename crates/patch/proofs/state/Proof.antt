@@ -12,16 +12,16 @@ state-code-requires c κs = search needs
 array-write-bytes : tie.Need-array-write-bytes
 array-write-bytes c = search needs
 
-slice-aggregate-write-number : tie.Need-slice-aggregate-write-number
-slice-aggregate-write-number c = search needs
+slice-aggregate-set : tie.Need-slice-aggregate-set
+slice-aggregate-set c = search needs
 
-write-number-requires : tie.Need-write-number-requires
-write-number-requires c κs = search needs
+set-requires : tie.Need-set-requires
+set-requires c κs = search needs
 
 returns : tie.Need-returns
 returns c =
     let a = c .before .before .before .before .args in
-    state-written (replicate 9 0) _ (a .s) _ (a .time) refl (c .before .before .before .state-code .ensures) (omega arith) (c .before .write-number .ensures)
+    state-written (replicate 9 0) _ (a .s) _ (a .time) refl (c .before .before .before .state-code .ensures) (omega arith) (c .before .set .ensures .written (omega arith))
 
 pub state-spec : {M : Type 1} → statement M
 state-spec =
@@ -29,6 +29,6 @@ state-spec =
     (tie.spec
     state-code-requires
     array-write-bytes
-    slice-aggregate-write-number
-    write-number-requires
+    slice-aggregate-set
+    set-requires
     returns)

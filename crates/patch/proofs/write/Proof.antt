@@ -3,10 +3,8 @@ use mathlib.Core.List.{List}
 use Prim.Native.Nat.{ℕ, _+_, _-_, _≤_}
 use native.Mathlib.Omega.{arith}
 use lib.ListN.{length, getD, set, take, length-set}
-use Rattle.trace.specs.Parts.{put}
-use Rattle.trace.proofs.Put.{put-none, put-more}
-use Rattle.memory.specs.Bytes as memory
-use Rattle.patch.proofs.Written.{put-is}
+use Rattle.little_endian.specs.Bytes.{put}
+use Rattle.little_endian.proofs.Put.{put-none, put-more}
 use borrow.Author.Needs.{needs}
 use Rattle.patch.proofs.write.Statement.{statement}
 use Rattle.patch.proofs.write.Tie as tie
@@ -49,7 +47,7 @@ returns c =
     let l = c .before in
     let a = l .before .args in
     let e : l .loop .j ≡ a .n = omega arith in
-    l .loop .inv .2 ∙ put-is (a .d .now) (a .at) (take (l .loop .j) (a .s .now)) ∙ ap (λ (i : ℕ). memory.put (a .d .now) (a .at) (take i (a .s .now))) e
+    l .loop .inv .2 ∙ ap (λ (i : ℕ). put (a .d .now) (a .at) (take i (a .s .now))) e
 
 pub write-spec : {M : Type 1} → statement M
 write-spec =

@@ -8,43 +8,33 @@ use Rattle.payload.proofs.component.Lts as lts
 use Rattle.ranges.proofs.is_up_to.Reads as is-up-to-reads
 use Rattle.text.proofs.next_part.Reads as next-part-reads
 
--- src/lib.rt:113:44
 next-part-requires : tie.Need-next-part-requires
 next-part-requires c κs = search needs
 
--- src/lib.rt:113:23
 enum-known-start : tie.Need-enum-known-start
 enum-known-start c = search needs
 
--- src/lib.rt:114:9
 enum-told : tie.Need-enum-told
 enum-told c = search needs
 
--- src/lib.rt:114:9
 returns : tie.Need-returns
 returns c = let s = c .before .before .before .before .args .s .now in after-past s (c .before .before .before .before .args .at) (c .before .before .before .before .args .most) (missing s (c .before .before .before .before .args .at) (c .before .before .next-part .ensures) (c .enum-told .given .1))
 
--- src/lib.rt:116:25
 sub-is-up-to : tie.Need-sub-is-up-to
 sub-is-up-to c = let p = found (c .before .before .before .before .before .args .s .now) (c .before .before .before .before .before .args .at) (c .before .before .before .next-part .ensures) (c .before .start .given .1) in omega arith
 
--- src/lib.rt:116:25
 part-is-up-to-start : tie.Need-part-is-up-to-start
 part-is-up-to-start c = let p = found (c .before .before .before .before .before .args .s .now) (c .before .before .before .before .before .args .at) (c .before .before .before .next-part .ensures) (c .before .start .given .1) in omega arith
 
--- src/lib.rt:116:25
 part-is-up-to-end : tie.Need-part-is-up-to-end
 part-is-up-to-end c = let p = found (c .before .before .before .before .before .args .s .now) (c .before .before .before .before .before .args .at) (c .before .before .before .next-part .ensures) (c .before .start .given .1) in omega arith
 
--- src/lib.rt:116:8
 is-up-to-requires : tie.Need-is-up-to-requires
 is-up-to-requires c κs = search needs
 
--- src/lib.rt:110:1
 returns-2 : tie.Need-returns-2
 returns-2 c = let s = c .before .before .before .before .before .before .before .before .args .s .now in after-yes s (c .before .before .before .before .before .before .before .before .args .at) (c .before .before .before .before .before .before .before .before .args .most) (found s (c .before .before .before .before .before .before .before .before .args .at) (c .before .before .before .before .before .before .next-part .ensures) (c .before .before .before .before .start .given .1)) (c .before .is-up-to .ensures) (c .if1 .taken)
 
--- src/lib.rt:110:1
 returns-3 : tie.Need-returns-3
 returns-3 c = let s = c .before .before .before .before .before .before .before .before .args .s .now in after-no s (c .before .before .before .before .before .before .before .before .args .at) (c .before .before .before .before .before .before .before .before .args .most) (found s (c .before .before .before .before .before .before .before .before .args .at) (c .before .before .before .before .before .before .next-part .ensures) (c .before .before .before .before .start .given .1)) (c .before .is-up-to .ensures) (c .if1 .left)
 

@@ -7,47 +7,38 @@ use Rattle.payload.proofs.datatype_at.Tie as tie
 use Rattle.payload.proofs.datatype_at.Reads as reads
 use Rattle.payload.proofs.datatype_at.Lts as lts
 
--- src/lib.rt:98:9
 returns : tie.Need-returns
 unfolding datatypeAt
 returns c = sym (ap datatypeAt (c .if1 .taken))
 
--- src/lib.rt:101:9
 returns-2 : tie.Need-returns-2
 unfolding datatypeAt
 returns-2 c = sym (ap datatypeAt (c .if2 .taken))
 
--- src/lib.rt:104:9
 returns-3 : tie.Need-returns-3
 unfolding datatypeAt
 returns-3 c = sym (ap datatypeAt (c .if3 .taken))
 
--- src/lib.rt:107:9
 returns-4 : tie.Need-returns-4
 unfolding datatypeAt
 returns-4 c = sym (ap datatypeAt (c .if4 .taken))
 
--- src/lib.rt:110:9
 returns-5 : tie.Need-returns-5
 unfolding datatypeAt
 returns-5 c = sym (ap datatypeAt (c .if5 .taken))
 
--- src/lib.rt:113:9
 returns-6 : tie.Need-returns-6
 unfolding datatypeAt
 returns-6 c = sym (ap datatypeAt (c .if6 .taken))
 
--- src/lib.rt:116:9
 returns-7 : tie.Need-returns-7
 unfolding datatypeAt
 returns-7 c = sym (ap datatypeAt (c .if7 .taken))
 
--- src/lib.rt:119:9
 returns-8 : tie.Need-returns-8
 unfolding datatypeAt
 returns-8 c = sym (ap datatypeAt (c .if8 .taken))
 
--- src/lib.rt:94:1
 returns-9 : tie.Need-returns-9
 returns-9 c = other-code (c .before .before .before .before .before .before .before .before .args .code) (c .before .before .before .before .before .before .before .if1 .left) (c .before .before .before .before .before .before .if2 .left) (c .before .before .before .before .before .if3 .left) (c .before .before .before .before .if4 .left) (c .before .before .before .if5 .left) (c .before .before .if6 .left) (c .before .if7 .left) (c .if8 .left)
 

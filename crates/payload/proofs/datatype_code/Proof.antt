@@ -6,83 +6,65 @@ use Rattle.payload.proofs.datatype_code.Tie as tie
 use Rattle.payload.proofs.datatype_code.Reads as reads
 use Rattle.payload.proofs.datatype_code.Lts as lts
 
--- src/lib.rt:81:29
 enum-told : tie.Need-enum-told
 enum-told c = search needs
 
--- src/lib.rt:82:30
 enum-told-2 : tie.Need-enum-told-2
 enum-told-2 c = search needs
 
--- src/lib.rt:83:28
 enum-told-3 : tie.Need-enum-told-3
 enum-told-3 c = search needs
 
--- src/lib.rt:84:30
 enum-told-4 : tie.Need-enum-told-4
 enum-told-4 c = search needs
 
--- src/lib.rt:85:27
 enum-told-5 : tie.Need-enum-told-5
 enum-told-5 c = search needs
 
--- src/lib.rt:86:28
 enum-told-6 : tie.Need-enum-told-6
 enum-told-6 c = search needs
 
--- src/lib.rt:87:31
 enum-told-7 : tie.Need-enum-told-7
 enum-told-7 c = search needs
 
--- src/lib.rt:88:31
 enum-told-8 : tie.Need-enum-told-8
 enum-told-8 c = search needs
 
--- src/lib.rt:89:27
 enum-told-9 : tie.Need-enum-told-9
 enum-told-9 c = search needs
 
--- src/lib.rt:77:1
 returns : tie.Need-returns
 unfolding codeOf
 returns c = sym (ap codeOf (c .enum-told .given .1))
 
--- src/lib.rt:77:1
 returns-2 : tie.Need-returns-2
 unfolding codeOf
 returns-2 c = sym (ap codeOf (c .enum-told2 .given .1))
 
--- src/lib.rt:77:1
 returns-3 : tie.Need-returns-3
 unfolding codeOf
 returns-3 c = sym (ap codeOf (c .enum-told3 .given .1))
 
--- src/lib.rt:77:1
 returns-4 : tie.Need-returns-4
 unfolding codeOf
 returns-4 c = sym (ap codeOf (c .enum-told4 .given .1))
 
--- src/lib.rt:77:1
 returns-5 : tie.Need-returns-5
 unfolding codeOf
 returns-5 c = sym (ap codeOf (c .enum-told5 .given .1))
 
--- src/lib.rt:77:1
 returns-6 : tie.Need-returns-6
 unfolding codeOf
 returns-6 c = sym (ap codeOf (c .enum-told6 .given .1))
 
--- src/lib.rt:77:1
 returns-7 : tie.Need-returns-7
 unfolding codeOf
 returns-7 c = sym (ap codeOf (c .enum-told7 .given .1))
 
--- src/lib.rt:77:1
 returns-8 : tie.Need-returns-8
 unfolding codeOf
 returns-8 c = sym (ap codeOf (c .enum-told8 .given .1))
 
--- src/lib.rt:77:1
 returns-9 : tie.Need-returns-9
 unfolding codeOf
 returns-9 c = sym (ap codeOf (c .enum-told9 .given .1))

@@ -12,25 +12,20 @@ use Rattle.payload.proofs.is_boolean_format.Lts as lts
 use Rattle.entries.proofs.count.Reads as count-reads
 use Rattle.entries.proofs.is_list.Reads as is-list-reads
 
--- src/lib.rt:222:9
 returns : tie.Need-returns
 unfolding isFormat
 returns c = stop _ (lt-leb _ 64 (c .if1 .taken))
 
--- src/lib.rt:224:9
 is-list-requires : tie.Need-is-list-requires
 is-list-requires c κs = search needs
 
--- src/lib.rt:225:9
 returns-2 : tie.Need-returns-2
 unfolding isFormat
 returns-2 c = go (le-leb _ 64 (c .before .before .if1 .left)) (stop _ (no (c .before .is-list .ensures) (c .if2 .taken)))
 
--- src/lib.rt:227:5
 count-requires : tie.Need-count-requires
 count-requires c κs = search needs
 
--- src/lib.rt:218:1
 returns-3 : tie.Need-returns-3
 unfolding isFormat
 returns-3 c = go (le-leb _ 64 (c .before .before .before .if1 .left)) (go (yes (c .before .before .is-list .ensures) (c .before .if2 .left)) (ap (λ (n : ℕ). eqb n 2) (c .count .ensures)))

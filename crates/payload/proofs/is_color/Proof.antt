@@ -14,95 +14,73 @@ use Rattle.payload.proofs.two.Reads as two-reads
 use Rattle.text.proofs.next_part.Reads as next-part-reads
 use Rattle.text.proofs.same.Reads as same-reads
 
--- src/lib.rt:146:44
 next-part-requires : tie.Need-next-part-requires
 next-part-requires c κs = search needs
 
--- src/lib.rt:146:23
 enum-known-start : tie.Need-enum-known-start
 enum-known-start c = search needs
 
--- src/lib.rt:147:9
 enum-told : tie.Need-enum-told
 enum-told c = search needs
 
--- src/lib.rt:147:9
 returns : tie.Need-returns
 returns c = no-color (c .before .before .before .before .before .args .format .now) (c .before .before .before .before .before .args .s .now) (missing (c .before .before .before .before .before .args .s .now) 0 (c .before .before .next-part .ensures) (c .enum-told .given .1))
 
--- src/lib.rt:149:17
 sub-model : tie.Need-sub-model
 sub-model c = let p = found (c .before .before .before .before .before .before .args .s .now) 0 (c .before .before .before .next-part .ensures) (c .before .start .given .1) in omega arith
 
--- src/lib.rt:149:17
 part-model-start : tie.Need-part-model-start
 part-model-start c = let p = found (c .before .before .before .before .before .before .args .s .now) 0 (c .before .before .before .next-part .ensures) (c .before .start .given .1) in omega arith
 
--- src/lib.rt:149:17
 part-model-end : tie.Need-part-model-end
 part-model-end c = let p = found (c .before .before .before .before .before .before .args .s .now) 0 (c .before .before .before .next-part .ensures) (c .before .start .given .1) in omega arith
 
--- src/lib.rt:150:9
 has-requires : tie.Need-has-requires
 has-requires c κs = search needs
 
--- src/lib.rt:151:9
 returns-2 : tie.Need-returns-2
 unfolding colorValues
 returns-2 c = stop _ (no (c .before .has .ensures) (c .if1 .taken)) ∙ sym (color-parts (c .before .before .before .before .before .before .before .before .before .args .format .now) (c .before .before .before .before .before .before .before .before .before .args .s .now) (found (c .before .before .before .before .before .before .before .before .before .args .s .now) 0 (c .before .before .before .before .before .before .next-part .ensures) (c .before .before .before .before .start .given .1)))
 
--- src/lib.rt:153:26
 slice-aggregate-same : tie.Need-slice-aggregate-same
 slice-aggregate-same c = search needs
 
--- src/lib.rt:153:8
 same-requires : tie.Need-same-requires
 same-requires c κs = search needs
 
--- src/lib.rt:154:9
 three-requires : tie.Need-three-requires
 three-requires c κs = search needs
 
--- src/lib.rt:154:9
 returns-3 : tie.Need-returns-3
 unfolding colorValues
 returns-3 c = go (yes (c .before .before .before .before .before .has .ensures) (c .before .before .before .before .if1 .left)) (cond-yes _ (told (c .before .before .same .ensures) (c .before .if2 .taken)) (c .three .ensures)) ∙ sym (color-parts (c .before .before .before .before .before .before .before .before .before .before .before .before .before .args .format .now) (c .before .before .before .before .before .before .before .before .before .before .before .before .before .args .s .now) (found (c .before .before .before .before .before .before .before .before .before .before .before .before .before .args .s .now) 0 (c .before .before .before .before .before .before .before .before .before .before .next-part .ensures) (c .before .before .before .before .before .before .before .before .start .given .1)))
 
--- src/lib.rt:156:26
 slice-aggregate-same-2 : tie.Need-slice-aggregate-same-2
 slice-aggregate-same-2 c = search needs
 
--- src/lib.rt:156:8
 same-requires-2 : tie.Need-same-requires-2
 same-requires-2 c κs = search needs
 
--- src/lib.rt:157:9
 three-requires-2 : tie.Need-three-requires-2
 three-requires-2 c κs = search needs
 
--- src/lib.rt:157:9
 returns-4 : tie.Need-returns-4
 unfolding colorValues
 returns-4 c = go (yes (c .before .before .before .before .before .before .before .before .has .ensures) (c .before .before .before .before .before .before .before .if1 .left)) (cond-no _ (told (c .before .before .before .before .before .same .ensures) (c .before .before .before .before .if2 .left)) (cond-yes _ (told (c .before .before .same2 .ensures) (c .before .if3 .taken)) (c .three2 .ensures))) ∙ sym (color-parts (c .before .before .before .before .before .before .before .before .before .before .before .before .before .before .before .before .args .format .now) (c .before .before .before .before .before .before .before .before .before .before .before .before .before .before .before .before .args .s .now) (found (c .before .before .before .before .before .before .before .before .before .before .before .before .before .before .before .before .args .s .now) 0 (c .before .before .before .before .before .before .before .before .before .before .before .before .before .next-part .ensures) (c .before .before .before .before .before .before .before .before .before .before .before .start .given .1)))
 
--- src/lib.rt:159:26
 slice-aggregate-same-3 : tie.Need-slice-aggregate-same-3
 slice-aggregate-same-3 c = search needs
 
--- src/lib.rt:159:8
 same-requires-3 : tie.Need-same-requires-3
 same-requires-3 c κs = search needs
 
--- src/lib.rt:160:9
 two-requires : tie.Need-two-requires
 two-requires c κs = search needs
 
--- src/lib.rt:160:9
 returns-5 : tie.Need-returns-5
 unfolding colorValues
 returns-5 c = go (yes (c .before .before .before .before .before .before .before .before .before .before .before .has .ensures) (c .before .before .before .before .before .before .before .before .before .before .if1 .left)) (cond-no _ (told (c .before .before .before .before .before .before .before .before .same .ensures) (c .before .before .before .before .before .before .before .if2 .left)) (cond-no _ (told (c .before .before .before .before .before .same2 .ensures) (c .before .before .before .before .if3 .left)) (cond-yes _ (told (c .before .before .same3 .ensures) (c .before .if4 .taken)) (c .two .ensures)))) ∙ sym (color-parts (c .before .before .before .before .before .before .before .before .before .before .before .before .before .before .before .before .before .before .before .args .format .now) (c .before .before .before .before .before .before .before .before .before .before .before .before .before .before .before .before .before .before .before .args .s .now) (found (c .before .before .before .before .before .before .before .before .before .before .before .before .before .before .before .before .before .before .before .args .s .now) 0 (c .before .before .before .before .before .before .before .before .before .before .before .before .before .before .before .before .next-part .ensures) (c .before .before .before .before .before .before .before .before .before .before .before .before .before .before .start .given .1)))
 
--- src/lib.rt:143:1
 returns-6 : tie.Need-returns-6
 unfolding colorValues
 returns-6 c = go (yes (c .before .before .before .before .before .before .before .before .before .before .has .ensures) (c .before .before .before .before .before .before .before .before .before .if1 .left)) (cond-no _ (told (c .before .before .before .before .before .before .before .same .ensures) (c .before .before .before .before .before .before .if2 .left)) (cond-no _ (told (c .before .before .before .before .same2 .ensures) (c .before .before .before .if3 .left)) (cond-no _ (told (c .before .same3 .ensures) (c .if4 .left)) refl))) ∙ sym (color-parts (c .before .before .before .before .before .before .before .before .before .before .before .before .before .before .before .before .before .before .args .format .now) (c .before .before .before .before .before .before .before .before .before .before .before .before .before .before .before .before .before .before .args .s .now) (found (c .before .before .before .before .before .before .before .before .before .before .before .before .before .before .before .before .before .before .args .s .now) 0 (c .before .before .before .before .before .before .before .before .before .before .before .before .before .before .before .next-part .ensures) (c .before .before .before .before .before .before .before .before .before .before .before .before .before .start .given .1)))

@@ -9,29 +9,23 @@ use Rattle.payload.proofs.is_color_format.Lts as lts
 use Rattle.entries.proofs.all_in.Reads as all-in-reads
 use Rattle.entries.proofs.is_list.Reads as is-list-reads
 
--- src/lib.rt:210:9
 returns : tie.Need-returns
 unfolding isFormat
 returns c = stop _ (lt-leb _ 64 (c .if1 .taken))
 
--- src/lib.rt:212:9
 is-list-requires : tie.Need-is-list-requires
 is-list-requires c κs = search needs
 
--- src/lib.rt:213:9
 returns-2 : tie.Need-returns-2
 unfolding isFormat
 returns-2 c = go (le-leb _ 64 (c .before .before .if1 .left)) (stop _ (no (c .before .is-list .ensures) (c .if2 .taken)))
 
--- src/lib.rt:215:24
 slice-aggregate-all-in : tie.Need-slice-aggregate-all-in
 slice-aggregate-all-in c = search needs
 
--- src/lib.rt:215:5
 all-in-requires : tie.Need-all-in-requires
 all-in-requires c κs = search needs
 
--- src/lib.rt:206:1
 returns-3 : tie.Need-returns-3
 unfolding isFormat
 returns-3 c = go (le-leb _ 64 (c .before .before .before .before .if1 .left)) (go (yes (c .before .before .before .is-list .ensures) (c .before .before .if2 .left)) (c .all-in .ensures))

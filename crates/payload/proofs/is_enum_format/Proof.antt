@@ -8,16 +8,13 @@ use Rattle.payload.proofs.is_enum_format.Reads as reads
 use Rattle.payload.proofs.is_enum_format.Lts as lts
 use Rattle.entries.proofs.is_list.Reads as is-list-reads
 
--- src/lib.rt:201:9
 returns : tie.Need-returns
 unfolding isFormat
 returns c = stop _ (lt-leb _ 64 (c .if1 .taken))
 
--- src/lib.rt:203:5
 is-list-requires : tie.Need-is-list-requires
 is-list-requires c κs = search needs
 
--- src/lib.rt:197:1
 returns-2 : tie.Need-returns-2
 unfolding isFormat
 returns-2 c = go (le-leb _ 64 (c .before .if1 .left)) (c .is-list .ensures)

@@ -11,29 +11,23 @@ use Rattle.payload.proofs.is_float_format.Reads as reads
 use Rattle.payload.proofs.is_float_format.Lts as lts
 use Rattle.ranges.proofs.float_range.Reads as float-range-reads
 
--- src/lib.rt:185:9
 returns : tie.Need-returns
 unfolding isFormat
 returns c = stop _ (lt-leb _ 64 (c .if1 .taken))
 
--- src/lib.rt:187:11
 float-range-requires : tie.Need-float-range-requires
 float-range-requires c κs = search needs
 
--- src/lib.rt:192:14
 enum-told : tie.Need-enum-told
 enum-told c = search needs
 
--- src/lib.rt:193:28
 enum-told-2 : tie.Need-enum-told-2
 enum-told-2 c = search needs
 
--- src/lib.rt:181:1
 returns-2 : tie.Need-returns-2
 unfolding isFormat
 returns-2 c = go (le-leb _ 64 (c .before .before .before .if1 .left)) (ap isSome (sym (ap floatRangeOf (c .enum-told .given .1)) ∙ c .before .before .float-range .ensures))
 
--- src/lib.rt:181:1
 returns-3 : tie.Need-returns-3
 unfolding isFormat
 returns-3 c = go (le-leb _ 64 (c .before .before .before .if1 .left)) (ap isSome (sym (ap floatRangeOf (c .enum-told2 .given .1)) ∙ c .before .before .float-range .ensures))

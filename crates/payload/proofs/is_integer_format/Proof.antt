@@ -11,29 +11,23 @@ use Rattle.payload.proofs.is_integer_format.Reads as reads
 use Rattle.payload.proofs.is_integer_format.Lts as lts
 use Rattle.ranges.proofs.integer_range.Reads as integer-range-reads
 
--- src/lib.rt:169:9
 returns : tie.Need-returns
 unfolding isFormat
 returns c = stop _ (lt-leb _ 64 (c .if1 .taken))
 
--- src/lib.rt:171:11
 integer-range-requires : tie.Need-integer-range-requires
 integer-range-requires c κs = search needs
 
--- src/lib.rt:176:14
 enum-told : tie.Need-enum-told
 enum-told c = search needs
 
--- src/lib.rt:177:30
 enum-told-2 : tie.Need-enum-told-2
 enum-told-2 c = search needs
 
--- src/lib.rt:165:1
 returns-2 : tie.Need-returns-2
 unfolding isFormat
 returns-2 c = go (le-leb _ 64 (c .before .before .before .if1 .left)) (ap isSome (sym (ap integerRangeOf (c .enum-told .given .1)) ∙ c .before .before .integer-range .ensures))
 
--- src/lib.rt:165:1
 returns-3 : tie.Need-returns-3
 unfolding isFormat
 returns-3 c = go (le-leb _ 64 (c .before .before .before .if1 .left)) (ap isSome (sym (ap integerRangeOf (c .enum-told2 .given .1)) ∙ c .before .before .integer-range .ensures))

@@ -6,27 +6,21 @@ use Rattle.payload.proofs.is_true_or_false.Reads as reads
 use Rattle.payload.proofs.is_true_or_false.Lts as lts
 use Rattle.text.proofs.same.Reads as same-reads
 
--- src/lib.rt:266:22
 slice-aggregate-same : tie.Need-slice-aggregate-same
 slice-aggregate-same c = search needs
 
--- src/lib.rt:266:8
 same-requires : tie.Need-same-requires
 same-requires c κs = search needs
 
--- src/lib.rt:266:61
 slice-aggregate-same-2 : tie.Need-slice-aggregate-same-2
 slice-aggregate-same-2 c = search needs
 
--- src/lib.rt:266:47
 same-requires-2 : tie.Need-same-requires-2
 same-requires-2 c κs = search needs
 
--- src/lib.rt:263:1
 returns : tie.Need-returns
 returns c = or-yes _ (told (c .before .same .ensures) (c .if1 .taken))
 
--- src/lib.rt:263:1
 returns-2 : tie.Need-returns-2
 returns-2 c = or-no (told (c .before .before .before .same .ensures) (c .before .before .if1 .left)) (c .same2 .ensures)
 

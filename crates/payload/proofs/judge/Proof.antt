@@ -10,39 +10,31 @@ use Rattle.payload.proofs.is_format.Reads as is-format-reads
 use Rattle.payload.proofs.is_of.Reads as is-of-reads
 use Rattle.payload.proofs.may_be.Reads as may-be-reads
 
--- src/lib.rt:300:9
 returns : tie.Need-returns
 unfolding isPayload
 returns c = stop _ (lt-leb 1 _ (c .if1 .taken))
 
--- src/lib.rt:303:9
 returns-2 : tie.Need-returns-2
 unfolding isPayload
 returns-2 c = go (le-leb 1 _ (c .before .if1 .left)) (stop _ (lt-leb _ 48 (c .if2 .taken)))
 
--- src/lib.rt:305:9
 may-be-requires : tie.Need-may-be-requires
 may-be-requires c κs = search needs
 
--- src/lib.rt:306:9
 returns-3 : tie.Need-returns-3
 unfolding isPayload
 returns-3 c = go (le-leb 1 _ (c .before .before .before .if1 .left)) (go (le-leb _ 48 (c .before .before .if2 .left)) (stop _ (no (c .before .may-be .ensures) (c .if3 .taken))))
 
--- src/lib.rt:308:9
 is-format-requires : tie.Need-is-format-requires
 is-format-requires c κs = search needs
 
--- src/lib.rt:309:9
 returns-4 : tie.Need-returns-4
 unfolding isPayload
 returns-4 c = go (le-leb 1 _ (c .before .before .before .before .before .if1 .left)) (go (le-leb _ 48 (c .before .before .before .before .if2 .left)) (go (yes (c .before .before .before .may-be .ensures) (c .before .before .if3 .left)) (stop _ (no (c .before .is-format .ensures) (c .if4 .taken)))))
 
--- src/lib.rt:311:5
 is-of-requires : tie.Need-is-of-requires
 is-of-requires c κs = search needs
 
--- src/lib.rt:296:1
 returns-5 : tie.Need-returns-5
 unfolding isPayload
 returns-5 c = go (le-leb 1 _ (c .before .before .before .before .before .before .if1 .left)) (go (le-leb _ 48 (c .before .before .before .before .before .if2 .left)) (go (yes (c .before .before .before .before .may-be .ensures) (c .before .before .before .if3 .left)) (go (yes (c .before .before .is-format .ensures) (c .before .if4 .left)) (c .is-of .ensures))))

@@ -11,27 +11,21 @@ use Rattle.payload.proofs.is_format.Reads as is-format-reads
 use Rattle.payload.proofs.kept.Reads as kept-reads
 use Rattle.payload.proofs.when_missing.Reads as when-missing-reads
 
--- src/lib.rt:303:9
 when-missing-requires : tie.Need-when-missing-requires
 when-missing-requires c κs = search needs
 
--- src/lib.rt:303:9
 returns : tie.Need-returns
 returns c = format-missing (c .before .before .before .args .d) (c .before .before .before .args .f .now) (c .before .before .before .args .given) (not-true _ (c .before .if1 .taken)) (c .when-missing .ensures (c .before .before .before .args .f .now))
 
--- src/lib.rt:305:9
 is-format-requires : tie.Need-is-format-requires
 is-format-requires c κs = search needs
 
--- src/lib.rt:306:9
 returns-2 : tie.Need-returns-2
 returns-2 c = format-bad (c .before .before .before .before .args .d) (c .before .before .before .before .args .f .now) (c .before .before .before .before .args .given) (not-false _ (c .before .before .if1 .left)) (no (c .before .is-format .ensures) (c .if2 .taken))
 
--- src/lib.rt:308:5
 kept-requires : tie.Need-kept-requires
 kept-requires c κs = search needs
 
--- src/lib.rt:299:1
 returns-3 : tie.Need-returns-3
 returns-3 c = format-good (c .before .before .before .before .before .args .d) (c .before .before .before .before .before .args .f .now) (c .before .before .before .before .before .args .given) (not-false _ (c .before .before .before .if1 .left)) (yes (c .before .before .is-format .ensures) (c .before .if2 .left)) (c .kept .ensures (c .before .before .before .before .before .args .f .now))
 

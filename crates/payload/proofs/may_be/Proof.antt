@@ -10,24 +10,19 @@ use Rattle.payload.proofs.may_be.Lts as lts
 use Rattle.payload.proofs.datatype_code.Reads as datatype-code-reads
 use Rattle.text.proofs.same.Reads as same-reads
 
--- src/lib.rt:341:23
 slice-aggregate-same : tie.Need-slice-aggregate-same
 slice-aggregate-same c = search needs
 
--- src/lib.rt:341:9
 same-requires : tie.Need-same-requires
 same-requires c κs = search needs
 
--- src/lib.rt:342:9
 returns : tie.Need-returns
 unfolding mayBe
 returns c = cond-no _ (no (c .before .same .ensures) (c .if1 .taken)) refl
 
--- src/lib.rt:344:5
 datatype-code-requires : tie.Need-datatype-code-requires
 datatype-code-requires c κs = search needs
 
--- src/lib.rt:338:1
 returns-2 : tie.Need-returns-2
 unfolding mayBe
 returns-2 c = cond-yes _ (yes (c .before .before .same .ensures) (c .before .if1 .left)) (string-code _ (c .datatype-code .ensures))

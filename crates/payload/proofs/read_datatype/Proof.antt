@@ -9,124 +9,96 @@ use Rattle.payload.proofs.read_datatype.Reads as reads
 use Rattle.payload.proofs.read_datatype.Lts as lts
 use Rattle.text.proofs.same.Reads as same-reads
 
--- src/lib.rt:47:22
 slice-aggregate-same : tie.Need-slice-aggregate-same
 slice-aggregate-same c = search needs
 
--- src/lib.rt:47:8
 same-requires : tie.Need-same-requires
 same-requires c κs = search needs
 
--- src/lib.rt:48:9
 returns : tie.Need-returns
 unfolding datatypeNamed
 returns c = pick-yes _ (told (c .before .same .ensures) (c .if1 .taken))
 
--- src/lib.rt:50:22
 slice-aggregate-same-2 : tie.Need-slice-aggregate-same-2
 slice-aggregate-same-2 c = search needs
 
--- src/lib.rt:50:8
 same-requires-2 : tie.Need-same-requires-2
 same-requires-2 c κs = search needs
 
--- src/lib.rt:51:9
 returns-2 : tie.Need-returns-2
 unfolding datatypeNamed
 returns-2 c = pick-no _ (told (c .before .before .before .before .same .ensures) (c .before .before .before .if1 .left)) (pick-yes _ (told (c .before .same2 .ensures) (c .if2 .taken)))
 
--- src/lib.rt:53:22
 slice-aggregate-same-3 : tie.Need-slice-aggregate-same-3
 slice-aggregate-same-3 c = search needs
 
--- src/lib.rt:53:8
 same-requires-3 : tie.Need-same-requires-3
 same-requires-3 c κs = search needs
 
--- src/lib.rt:54:9
 returns-3 : tie.Need-returns-3
 unfolding datatypeNamed
 returns-3 c = pick-no _ (told (c .before .before .before .before .before .before .before .same .ensures) (c .before .before .before .before .before .before .if1 .left)) (pick-no _ (told (c .before .before .before .before .same2 .ensures) (c .before .before .before .if2 .left)) (pick-yes _ (told (c .before .same3 .ensures) (c .if3 .taken))))
 
--- src/lib.rt:56:22
 slice-aggregate-same-4 : tie.Need-slice-aggregate-same-4
 slice-aggregate-same-4 c = search needs
 
--- src/lib.rt:56:8
 same-requires-4 : tie.Need-same-requires-4
 same-requires-4 c κs = search needs
 
--- src/lib.rt:57:9
 returns-4 : tie.Need-returns-4
 unfolding datatypeNamed
 returns-4 c = pick-no _ (told (c .before .before .before .before .before .before .before .before .before .before .same .ensures) (c .before .before .before .before .before .before .before .before .before .if1 .left)) (pick-no _ (told (c .before .before .before .before .before .before .before .same2 .ensures) (c .before .before .before .before .before .before .if2 .left)) (pick-no _ (told (c .before .before .before .before .same3 .ensures) (c .before .before .before .if3 .left)) (pick-yes _ (told (c .before .same4 .ensures) (c .if4 .taken)))))
 
--- src/lib.rt:59:22
 slice-aggregate-same-5 : tie.Need-slice-aggregate-same-5
 slice-aggregate-same-5 c = search needs
 
--- src/lib.rt:59:8
 same-requires-5 : tie.Need-same-requires-5
 same-requires-5 c κs = search needs
 
--- src/lib.rt:60:9
 returns-5 : tie.Need-returns-5
 unfolding datatypeNamed
 returns-5 c = pick-no _ (told (c .before .before .before .before .before .before .before .before .before .before .before .before .before .same .ensures) (c .before .before .before .before .before .before .before .before .before .before .before .before .if1 .left)) (pick-no _ (told (c .before .before .before .before .before .before .before .before .before .before .same2 .ensures) (c .before .before .before .before .before .before .before .before .before .if2 .left)) (pick-no _ (told (c .before .before .before .before .before .before .before .same3 .ensures) (c .before .before .before .before .before .before .if3 .left)) (pick-no _ (told (c .before .before .before .before .same4 .ensures) (c .before .before .before .if4 .left)) (pick-yes _ (told (c .before .same5 .ensures) (c .if5 .taken))))))
 
--- src/lib.rt:62:22
 slice-aggregate-same-6 : tie.Need-slice-aggregate-same-6
 slice-aggregate-same-6 c = search needs
 
--- src/lib.rt:62:8
 same-requires-6 : tie.Need-same-requires-6
 same-requires-6 c κs = search needs
 
--- src/lib.rt:63:9
 returns-6 : tie.Need-returns-6
 unfolding datatypeNamed
 returns-6 c = pick-no _ (told (c .before .before .before .before .before .before .before .before .before .before .before .before .before .before .before .before .same .ensures) (c .before .before .before .before .before .before .before .before .before .before .before .before .before .before .before .if1 .left)) (pick-no _ (told (c .before .before .before .before .before .before .before .before .before .before .before .before .before .same2 .ensures) (c .before .before .before .before .before .before .before .before .before .before .before .before .if2 .left)) (pick-no _ (told (c .before .before .before .before .before .before .before .before .before .before .same3 .ensures) (c .before .before .before .before .before .before .before .before .before .if3 .left)) (pick-no _ (told (c .before .before .before .before .before .before .before .same4 .ensures) (c .before .before .before .before .before .before .if4 .left)) (pick-no _ (told (c .before .before .before .before .same5 .ensures) (c .before .before .before .if5 .left)) (pick-yes _ (told (c .before .same6 .ensures) (c .if6 .taken)))))))
 
--- src/lib.rt:65:22
 slice-aggregate-same-7 : tie.Need-slice-aggregate-same-7
 slice-aggregate-same-7 c = search needs
 
--- src/lib.rt:65:8
 same-requires-7 : tie.Need-same-requires-7
 same-requires-7 c κs = search needs
 
--- src/lib.rt:66:9
 returns-7 : tie.Need-returns-7
 unfolding datatypeNamed
 returns-7 c = pick-no _ (told (c .before .before .before .before .before .before .before .before .before .before .before .before .before .before .before .before .before .before .before .same .ensures) (c .before .before .before .before .before .before .before .before .before .before .before .before .before .before .before .before .before .before .if1 .left)) (pick-no _ (told (c .before .before .before .before .before .before .before .before .before .before .before .before .before .before .before .before .same2 .ensures) (c .before .before .before .before .before .before .before .before .before .before .before .before .before .before .before .if2 .left)) (pick-no _ (told (c .before .before .before .before .before .before .before .before .before .before .before .before .before .same3 .ensures) (c .before .before .before .before .before .before .before .before .before .before .before .before .if3 .left)) (pick-no _ (told (c .before .before .before .before .before .before .before .before .before .before .same4 .ensures) (c .before .before .before .before .before .before .before .before .before .if4 .left)) (pick-no _ (told (c .before .before .before .before .before .before .before .same5 .ensures) (c .before .before .before .before .before .before .if5 .left)) (pick-no _ (told (c .before .before .before .before .same6 .ensures) (c .before .before .before .if6 .left)) (pick-yes _ (told (c .before .same7 .ensures) (c .if7 .taken))))))))
 
--- src/lib.rt:68:22
 slice-aggregate-same-8 : tie.Need-slice-aggregate-same-8
 slice-aggregate-same-8 c = search needs
 
--- src/lib.rt:68:8
 same-requires-8 : tie.Need-same-requires-8
 same-requires-8 c κs = search needs
 
--- src/lib.rt:69:9
 returns-8 : tie.Need-returns-8
 unfolding datatypeNamed
 returns-8 c = pick-no _ (told (c .before .before .before .before .before .before .before .before .before .before .before .before .before .before .before .before .before .before .before .before .before .before .same .ensures) (c .before .before .before .before .before .before .before .before .before .before .before .before .before .before .before .before .before .before .before .before .before .if1 .left)) (pick-no _ (told (c .before .before .before .before .before .before .before .before .before .before .before .before .before .before .before .before .before .before .before .same2 .ensures) (c .before .before .before .before .before .before .before .before .before .before .before .before .before .before .before .before .before .before .if2 .left)) (pick-no _ (told (c .before .before .before .before .before .before .before .before .before .before .before .before .before .before .before .before .same3 .ensures) (c .before .before .before .before .before .before .before .before .before .before .before .before .before .before .before .if3 .left)) (pick-no _ (told (c .before .before .before .before .before .before .before .before .before .before .before .before .before .same4 .ensures) (c .before .before .before .before .before .before .before .before .before .before .before .before .if4 .left)) (pick-no _ (told (c .before .before .before .before .before .before .before .before .before .before .same5 .ensures) (c .before .before .before .before .before .before .before .before .before .if5 .left)) (pick-no _ (told (c .before .before .before .before .before .before .before .same6 .ensures) (c .before .before .before .before .before .before .if6 .left)) (pick-no _ (told (c .before .before .before .before .same7 .ensures) (c .before .before .before .if7 .left)) (pick-yes _ (told (c .before .same8 .ensures) (c .if8 .taken)))))))))
 
--- src/lib.rt:71:22
 slice-aggregate-same-9 : tie.Need-slice-aggregate-same-9
 slice-aggregate-same-9 c = search needs
 
--- src/lib.rt:71:8
 same-requires-9 : tie.Need-same-requires-9
 same-requires-9 c κs = search needs
 
--- src/lib.rt:72:9
 returns-9 : tie.Need-returns-9
 unfolding datatypeNamed
 returns-9 c = pick-no _ (told (c .before .before .before .before .before .before .before .before .before .before .before .before .before .before .before .before .before .before .before .before .before .before .before .before .before .same .ensures) (c .before .before .before .before .before .before .before .before .before .before .before .before .before .before .before .before .before .before .before .before .before .before .before .before .if1 .left)) (pick-no _ (told (c .before .before .before .before .before .before .before .before .before .before .before .before .before .before .before .before .before .before .before .before .before .before .same2 .ensures) (c .before .before .before .before .before .before .before .before .before .before .before .before .before .before .before .before .before .before .before .before .before .if2 .left)) (pick-no _ (told (c .before .before .before .before .before .before .before .before .before .before .before .before .before .before .before .before .before .before .before .same3 .ensures) (c .before .before .before .before .before .before .before .before .before .before .before .before .before .before .before .before .before .before .if3 .left)) (pick-no _ (told (c .before .before .before .before .before .before .before .before .before .before .before .before .before .before .before .before .same4 .ensures) (c .before .before .before .before .before .before .before .before .before .before .before .before .before .before .before .if4 .left)) (pick-no _ (told (c .before .before .before .before .before .before .before .before .before .before .before .before .before .same5 .ensures) (c .before .before .before .before .before .before .before .before .before .before .before .before .if5 .left)) (pick-no _ (told (c .before .before .before .before .before .before .before .before .before .before .same6 .ensures) (c .before .before .before .before .before .before .before .before .before .if6 .left)) (pick-no _ (told (c .before .before .before .before .before .before .before .same7 .ensures) (c .before .before .before .before .before .before .if7 .left)) (pick-no _ (told (c .before .before .before .before .same8 .ensures) (c .before .before .before .if8 .left)) (pick-yes _ (told (c .before .same9 .ensures) (c .if9 .taken))))))))))
 
--- src/lib.rt:44:1
 returns-10 : tie.Need-returns-10
 unfolding datatypeNamed
 returns-10 c = pick-no _ (told (c .before .before .before .before .before .before .before .before .before .before .before .before .before .before .before .before .before .before .before .before .before .before .before .before .before .same .ensures) (c .before .before .before .before .before .before .before .before .before .before .before .before .before .before .before .before .before .before .before .before .before .before .before .before .if1 .left)) (pick-no _ (told (c .before .before .before .before .before .before .before .before .before .before .before .before .before .before .before .before .before .before .before .before .before .before .same2 .ensures) (c .before .before .before .before .before .before .before .before .before .before .before .before .before .before .before .before .before .before .before .before .before .if2 .left)) (pick-no _ (told (c .before .before .before .before .before .before .before .before .before .before .before .before .before .before .before .before .before .before .before .same3 .ensures) (c .before .before .before .before .before .before .before .before .before .before .before .before .before .before .before .before .before .before .if3 .left)) (pick-no _ (told (c .before .before .before .before .before .before .before .before .before .before .before .before .before .before .before .before .same4 .ensures) (c .before .before .before .before .before .before .before .before .before .before .before .before .before .before .before .if4 .left)) (pick-no _ (told (c .before .before .before .before .before .before .before .before .before .before .before .before .before .same5 .ensures) (c .before .before .before .before .before .before .before .before .before .before .before .before .if5 .left)) (pick-no _ (told (c .before .before .before .before .before .before .before .before .before .before .same6 .ensures) (c .before .before .before .before .before .before .before .before .before .if6 .left)) (pick-no _ (told (c .before .before .before .before .before .before .before .same7 .ensures) (c .before .before .before .before .before .before .if7 .left)) (pick-no _ (told (c .before .before .before .before .same8 .ensures) (c .before .before .before .if8 .left)) (pick-no _ (told (c .before .same9 .ensures) (c .if9 .left)) (refl)))))))))

@@ -7,19 +7,15 @@ use Rattle.payload.proofs.three.Lts as lts
 use Rattle.payload.proofs.component.Reads as component-reads
 use Rattle.payload.proofs.two.Reads as two-reads
 
--- src/lib.rt:122:9
 component-requires : tie.Need-component-requires
 component-requires c κs = search needs
 
--- src/lib.rt:124:9
 returns : tie.Need-returns
 returns c = after-none (c .before .component .ensures) (c .if1 .taken) _
 
--- src/lib.rt:126:5
 two-requires : tie.Need-two-requires
 two-requires c κs = search needs
 
--- src/lib.rt:119:1
 returns-2 : tie.Need-returns-2
 returns-2 c = after-some (c .before .before .component .ensures) (c .before .if1 .left) _ (c .two .ensures)
 

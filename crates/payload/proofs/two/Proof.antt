@@ -7,23 +7,18 @@ use Rattle.payload.proofs.two.Reads as reads
 use Rattle.payload.proofs.two.Lts as lts
 use Rattle.payload.proofs.component.Reads as component-reads
 
--- src/lib.rt:132:9
 component-requires : tie.Need-component-requires
 component-requires c κs = search needs
 
--- src/lib.rt:134:9
 returns : tie.Need-returns
 returns c = after-none (c .before .component .ensures) (c .if1 .taken) _
 
--- src/lib.rt:136:9
 component-requires-2 : tie.Need-component-requires-2
 component-requires-2 c κs = search needs
 
--- src/lib.rt:138:9
 returns-2 : tie.Need-returns-2
 returns-2 c = after-some (c .before .before .before .component .ensures) (c .before .before .if1 .left) _ (after-none (c .before .component2 .ensures) (c .if2 .taken) [])
 
--- src/lib.rt:129:1
 returns-3 : tie.Need-returns-3
 returns-3 c = after-some (c .before .before .before .component .ensures) (c .before .before .if1 .left) _ (after-some (c .before .component2 .ensures) (c .if2 .left) [] (after-all (c .before .before .before .before .before .args .s .now) _))
 

@@ -1,5 +1,5 @@
 use native.Mathlib.Omega.{arith}
-use Rattle.memory.specs.Bytes.{part}
+use Rattle.memory.specs.Bytes.{span}
 use Rattle.memory.specs.Layout.{roomSize}
 use Rattle.questions.proofs.Rooms.{inside-at}
 use Rattle.questions.proofs.Shows.{no-text, a-text}
@@ -17,7 +17,7 @@ moved-requires : tie.Need-moved-requires
 moved-requires c κs = let a = c .before .before .before .before .args in let w = inside-at roomSize (a .t) (c .before .t .given .0 .0) (c .before .before .before .before .pre .1) (c .before .t .given .1) in (w .ordered, omega (arith, w .inside, c .before .before .before .before .pre .0))
 
 returns : tie.Need-returns
-returns c = let a = c .before .before .before .args in no-text (a .mem .now) (part (a .mem .now) (a .start) roomSize) (a .t) (c .enum-told .given .1)
+returns c = let a = c .before .before .before .args in no-text (a .mem .now) (span (a .mem .now) (a .start) roomSize) (a .t) (c .enum-told .given .1)
 
 returns-2 : tie.Need-returns-2
 returns-2 c = let a = c .before .before .before .before .before .args in a-text (a .mem .now) (a .start) (a .t) (c .before .before .t .given .0 .0) (c .moved .result) (c .before .before .before .before .before .pre .0) (c .before .before .before .before .before .pre .1) (c .before .before .t .given .1) (c .moved .ensures)

@@ -1,6 +1,6 @@
 use native.Mathlib.Omega.{arith}
 use mathlib.Core.Path.{refl}
-use Rattle.memory.specs.Bytes.{part}
+use Rattle.memory.specs.Bytes.{span}
 use Rattle.memory.specs.Layout.{roomSize}
 use Rattle.rules.specs.Questions.{askRoot, reply}
 use Rattle.questions.specs.Meaning.{saysRelative}
@@ -35,7 +35,7 @@ returns c = let a = c .before .before .before .before .before .before .args in r
 
 returns-2 : tie.Need-returns-2
 unfolding reply
-returns-2 c = let a = c .before .before .before .before .before .before .before .before .before .args in let t = text-says (c .before .before .room-at .result .now) (part (a .mem .now) (c .before .before .before .before .start .given .0 .0) roomSize) (c .before .root .result) _ _ (c .before .before .room-at .ensures) (c .before .root .ensures .says) (c .relative-in .ensures .says) in record { did = answer-in (askRoot (a .id .now)) (a .mem .now) (a .id .now) (c .before .before .before .before .before .before .seek .result) (c .before .before .before .before .before .before .seek .ensures) _ refl (c .before .before .before .before .start .given .0 .0) (c .before .before .room-at .result .now) _ (c .before .before .before .before .start .given .1) (c .before .before .room-at .ensures) t; places = c .relative-in .ensures .places }
+returns-2 c = let a = c .before .before .before .before .before .before .before .before .before .args in let t = text-says (c .before .before .room-at .result .now) (span (a .mem .now) (c .before .before .before .before .start .given .0 .0) roomSize) (c .before .root .result) _ _ (c .before .before .room-at .ensures) (c .before .root .ensures .says) (c .relative-in .ensures .says) in record { did = answer-in (askRoot (a .id .now)) (a .mem .now) (a .id .now) (c .before .before .before .before .before .before .seek .result) (c .before .before .before .before .before .before .seek .ensures) _ refl (c .before .before .before .before .start .given .0 .0) (c .before .before .room-at .result .now) _ (c .before .before .before .before .start .given .1) (c .before .before .room-at .ensures) t; places = c .relative-in .ensures .places }
 
 pub root-of-spec : {M : Type 1} → statement M
 root-of-spec =

@@ -1,4 +1,4 @@
-use Rattle.memory.specs.Bytes.{part}
+use Rattle.memory.specs.Bytes.{span}
 use Rattle.memory.specs.Layout.{roomSize}
 use Rattle.lookup.specs.Meaning.{means}
 use Rattle.questions.proofs.Effective.{states-says}
@@ -19,7 +19,7 @@ time-requires : tie.Need-time-requires
 time-requires c κs = search needs
 
 returns : tie.Need-returns
-returns c = let a = c .before .before .before .before .before .args in states-says (means (a .mem .now) .now .devices) (c .before .before .before .room-at .result .now) (part (a .mem .now) (a .start) roomSize) _ _ _ (c .before .before .before .room-at .ensures) (c .before .before .state .ensures) (c .before .effective-in .ensures) (c .time .ensures)
+returns c = let a = c .before .before .before .before .before .args in states-says (means (a .mem .now) .now .devices) (c .before .before .before .room-at .result .now) (span (a .mem .now) (a .start) roomSize) _ _ _ (c .before .before .before .room-at .ensures) (c .before .before .state .ensures) (c .before .effective-in .ensures) (c .time .ensures)
 
 pub states-in-spec : {M : Type 1} → statement M
 states-in-spec =

@@ -6,61 +6,47 @@ use Rattle.ranges.proofs.cut_fields.Reads as reads
 use Rattle.ranges.proofs.cut_fields.Lts as lts
 use Rattle.text.proofs.next_part.Reads as next-part-reads
 
--- src/lib.rt:52:53
 next-part-requires : tie.Need-next-part-requires
 next-part-requires c κs = search needs
 
--- src/lib.rt:52:38
 enum-known-a : tie.Need-enum-known-a
 enum-known-a c = search needs
 
--- src/lib.rt:53:9
 enum-told : tie.Need-enum-told
 enum-told c = search needs
 
--- src/lib.rt:53:9
 returns : tie.Need-returns
 returns c = let s = c .before .before .before .before .args .s .now in no-part s (missing s 0 (c .before .before .next-part .ensures) (c .enum-told .given .1))
 
--- src/lib.rt:55:53
 next-part-requires-2 : tie.Need-next-part-requires-2
 next-part-requires-2 c κs = search needs
 
--- src/lib.rt:55:38
 enum-known-b : tie.Need-enum-known-b
 enum-known-b c = search needs
 
--- src/lib.rt:56:9
 enum-told-2 : tie.Need-enum-told-2
 enum-told-2 c = search needs
 
--- src/lib.rt:56:9
 returns-2 : tie.Need-returns-2
 returns-2 c = let s = c .before .before .before .before .before .before .before .before .args .s .now in one-part s (found s 0 (c .before .before .before .before .before .before .next-part .ensures) (c .before .before .before .before .a .given .1)) (missing s _ (c .before .before .next-part2 .ensures) (c .enum-told2 .given .1))
 
--- src/lib.rt:58:53
 next-part-requires-3 : tie.Need-next-part-requires-3
 next-part-requires-3 c κs = search needs
 
--- src/lib.rt:58:47
 enum-known-o : tie.Need-enum-known-o
 enum-known-o c = search needs
 
--- src/lib.rt:59:9
 enum-told-3 : tie.Need-enum-told-3
 enum-told-3 c = search needs
 
--- src/lib.rt:59:9
 returns-3 : tie.Need-returns-3
 returns-3 c = let s = c .before .before .before .before .before .before .before .before .before .before .before .before .args .s .now in
     two-parts s (found s 0 (c .before .before .before .before .before .before .before .before .before .before .next-part .ensures) (c .before .before .before .before .before .before .before .before .a .given .1)) (found s _ (c .before .before .before .before .before .before .next-part2 .ensures) (c .before .before .before .before .b .given .1)) (missing s _ (c .before .before .next-part3 .ensures) (c .enum-told3 .given .1))
 
--- src/lib.rt:62:9
 returns-4 : tie.Need-returns-4
 returns-4 c = let s = c .before .before .before .before .before .before .before .before .before .before .before .before .before .before .args .s .now in
     four-parts s (found s 0 (c .before .before .before .before .before .before .before .before .before .before .before .before .next-part .ensures) (c .before .before .before .before .before .before .before .before .before .before .a .given .1)) (found s _ (c .before .before .before .before .before .before .before .before .next-part2 .ensures) (c .before .before .before .before .before .before .b .given .1)) (found s _ (c .before .before .before .before .next-part3 .ensures) (c .before .before .o .given .1)) (c .if1 .taken)
 
--- src/lib.rt:49:1
 returns-5 : tie.Need-returns-5
 returns-5 c = let s = c .before .before .before .before .before .before .before .before .before .before .before .before .before .before .args .s .now in
     three-parts s (found s 0 (c .before .before .before .before .before .before .before .before .before .before .before .before .next-part .ensures) (c .before .before .before .before .before .before .before .before .before .before .a .given .1)) (found s _ (c .before .before .before .before .before .before .before .before .next-part2 .ensures) (c .before .before .before .before .before .before .b .given .1)) (found s _ (c .before .before .before .before .next-part3 .ensures) (c .before .before .o .given .1)) (c .if1 .left)

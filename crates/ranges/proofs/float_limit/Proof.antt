@@ -8,27 +8,21 @@ use Rattle.ranges.proofs.float_limit.Reads as reads
 use Rattle.ranges.proofs.float_limit.Lts as lts
 use Rattle.numbers.proofs.decimals.read_decimal.Reads as read-decimal-reads
 
--- src/lib.rt:161:9
 returns : tie.Need-returns
 returns c = bound-open decimal (c .before .before .args .s .now) (c .if1 .taken)
 
--- src/lib.rt:163:11
 read-decimal-requires : tie.Need-read-decimal-requires
 read-decimal-requires c κs = search needs
 
--- src/lib.rt:164:28
 enum-known-d : tie.Need-enum-known-d
 enum-known-d c = search needs
 
--- src/lib.rt:165:33
 enum-told : tie.Need-enum-told
 enum-told c = search needs
 
--- src/lib.rt:157:1
 returns-2 : tie.Need-returns-2
 returns-2 c = bound-read decimal (c .before .before .before .before .before .before .args .s .now) (c .before .before .before .before .if1 .left) (sym (ap decimalRead (c .before .d .given .1)) ∙ c .before .before .before .read-decimal .ensures)
 
--- src/lib.rt:157:1
 returns-3 : tie.Need-returns-3
 returns-3 c = bound-read decimal (c .before .before .before .before .before .args .s .now) (c .before .before .before .if1 .left) (sym (ap decimalRead (c .enum-told .given .1)) ∙ c .before .before .read-decimal .ensures)
 

@@ -9,37 +9,29 @@ use Rattle.ranges.proofs.float_ordered.Reads as reads
 use Rattle.ranges.proofs.float_ordered.Lts as lts
 use Rattle.numbers.proofs.compare.decimal_le.Reads as decimal-le-reads
 
--- src/lib.rt:173:26
 enum-known-min : tie.Need-enum-known-min
 enum-known-min c = search needs
 
--- src/lib.rt:174:30
 enum-known-max : tie.Need-enum-known-max
 enum-known-max c = search needs
 
--- src/lib.rt:174:36
 decimal-le-requires : tie.Need-decimal-le-requires
 decimal-le-requires c κs = search needs
 
--- src/lib.rt:175:35
 enum-told : tie.Need-enum-told
 enum-told c = search needs
 
--- src/lib.rt:177:31
 enum-told-2 : tie.Need-enum-told-2
 enum-told-2 c = search needs
 
--- src/lib.rt:169:1
 returns : tie.Need-returns
 returns c = both-bounds leDecimal (ap decimalLimit (c .before .before .before .before .before .min .given .1)) (ap decimalLimit (c .before .before .max .given .1)) (c .decimal-le .ensures)
 
--- src/lib.rt:169:1
 returns-2 : tie.Need-returns-2
 returns-2 c = no-max leDecimal (ap decimalLimit (c .before .before .before .min .given .1)) (ap decimalLimit (c .enum-told .given .1))
 
--- src/lib.rt:169:1
 returns-3 : tie.Need-returns-3
-returns-3 c = no-min leDecimal _ (ap decimalLimit (c .enum-told2 .given .1))
+returns-3 c = no-min leDecimal (decimalLimit (c .before .before .args .max)) (ap decimalLimit (c .enum-told2 .given .1))
 
 pub float-ordered-spec : {M : Type 1} → statement M
 float-ordered-spec =

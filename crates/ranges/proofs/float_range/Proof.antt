@@ -2,9 +2,10 @@ use mathlib.Core.Path.{sym, ap, _∙_}
 use native.Mathlib.Omega.{arith}
 use Rattle.numbers.specs.Decimal.{decimal}
 use Rattle.numbers.specs.Ratio.{decimalLimit}
-use Rattle.ranges.specs.Ranges.{leDecimal, positiveDecimal, floatRange}
+use Rattle.ranges.specs.Ranges.{leDecimal, positiveDecimal}
 use Rattle.ranges.proofs.Cutting.{cut-two, cut-three, cut-other}
-use Rattle.ranges.proofs.Reading.{range-two, range-stepped, range-other, step-goes}
+use Rattle.ranges.proofs.Words.{float-fields}
+use Rattle.ranges.proofs.Reading.{range-two, range-stepped, range-other}
 use borrow.Author.Needs.{needs}
 use Rattle.ranges.proofs.float_range.Statement.{statement}
 use Rattle.ranges.proofs.float_range.Tie as tie
@@ -14,133 +15,98 @@ use Rattle.ranges.proofs.cut_fields.Reads as cut-fields-reads
 use Rattle.ranges.proofs.float_step.Reads as float-step-reads
 use Rattle.ranges.proofs.float_within.Reads as float-within-reads
 
--- src/lib.rt:221:11
 cut-fields-requires : tie.Need-cut-fields-requires
 cut-fields-requires c κs = search needs
 
--- src/lib.rt:222:19
 enum-known-a : tie.Need-enum-known-a
 enum-known-a c = search needs
 
--- src/lib.rt:223:21
 add-m : tie.Need-add-m
 add-m c = let l = cut-two (c .before .before .before .cut-fields .ensures) (c .before .a .given .1) in omega arith
 
--- src/lib.rt:224:26
 sub-float-within : tie.Need-sub-float-within
 sub-float-within c = let l = cut-two (c .before .before .before .cut-fields .ensures) (c .before .a .given .1) in omega arith
 
--- src/lib.rt:224:26
 part-float-within-start : tie.Need-part-float-within-start
 part-float-within-start c = let l = cut-two (c .before .before .before .cut-fields .ensures) (c .before .a .given .1) in omega arith
 
--- src/lib.rt:224:26
 part-float-within-end : tie.Need-part-float-within-end
 part-float-within-end c = let l = cut-two (c .before .before .before .cut-fields .ensures) (c .before .a .given .1) in omega arith
 
--- src/lib.rt:224:36
 sub-float-within-2 : tie.Need-sub-float-within-2
 sub-float-within-2 c = let l = cut-two (c .before .before .before .before .cut-fields .ensures) (c .before .before .a .given .1) in omega arith
 
--- src/lib.rt:224:36
 part-float-within-start-2 : tie.Need-part-float-within-start-2
 part-float-within-start-2 c = let l = cut-two (c .before .before .before .before .cut-fields .ensures) (c .before .before .a .given .1) in omega arith
 
--- src/lib.rt:224:36
 part-float-within-end-2 : tie.Need-part-float-within-end-2
 part-float-within-end-2 c = let l = cut-two (c .before .before .before .before .cut-fields .ensures) (c .before .before .a .given .1) in omega arith
 
--- src/lib.rt:224:13
 float-within-requires : tie.Need-float-within-requires
 float-within-requires c κs = search needs
 
--- src/lib.rt:226:21
 enum-known-a-2 : tie.Need-enum-known-a-2
 enum-known-a-2 c = search needs
 
--- src/lib.rt:227:21
 add-m-2 : tie.Need-add-m-2
 add-m-2 c = let l = cut-three (c .before .before .before .cut-fields .ensures) (c .before .a2 .given .1) in omega arith
 
--- src/lib.rt:228:21
 add-n : tie.Need-add-n
 add-n c = let l = cut-three (c .before .before .before .cut-fields .ensures) (c .before .a2 .given .1) in omega arith
 
--- src/lib.rt:229:35
 sub-float-step : tie.Need-sub-float-step
 sub-float-step c = let l = cut-three (c .before .before .before .cut-fields .ensures) (c .before .a2 .given .1) in omega arith
 
--- src/lib.rt:229:35
 part-float-step-start : tie.Need-part-float-step-start
 part-float-step-start c = let l = cut-three (c .before .before .before .cut-fields .ensures) (c .before .a2 .given .1) in omega arith
 
--- src/lib.rt:229:35
 part-float-step-end : tie.Need-part-float-step-end
 part-float-step-end c = let l = cut-three (c .before .before .before .cut-fields .ensures) (c .before .a2 .given .1) in omega arith
 
--- src/lib.rt:229:17
 float-step-requires : tie.Need-float-step-requires
 float-step-requires c κs = search needs
 
--- src/lib.rt:231:34
 enum-known-step : tie.Need-enum-known-step
 enum-known-step c = search needs
 
--- src/lib.rt:231:53
 sub-float-within-3 : tie.Need-sub-float-within-3
 sub-float-within-3 c = let l = cut-three (c .before .before .before .before .before .before .before .before .cut-fields .ensures) (c .before .before .before .before .before .before .a2 .given .1) in omega arith
 
--- src/lib.rt:231:53
 part-float-within-start-3 : tie.Need-part-float-within-start-3
 part-float-within-start-3 c = let l = cut-three (c .before .before .before .before .before .before .before .before .cut-fields .ensures) (c .before .before .before .before .before .before .a2 .given .1) in omega arith
 
--- src/lib.rt:231:53
 part-float-within-end-3 : tie.Need-part-float-within-end-3
 part-float-within-end-3 c = let l = cut-three (c .before .before .before .before .before .before .before .before .cut-fields .ensures) (c .before .before .before .before .before .before .a2 .given .1) in omega arith
 
--- src/lib.rt:231:63
 sub-float-within-4 : tie.Need-sub-float-within-4
 sub-float-within-4 c = let l = cut-three (c .before .before .before .before .before .before .before .before .before .cut-fields .ensures) (c .before .before .before .before .before .before .before .a2 .given .1) in omega arith
 
--- src/lib.rt:231:63
 part-float-within-start-4 : tie.Need-part-float-within-start-4
 part-float-within-start-4 c = let l = cut-three (c .before .before .before .before .before .before .before .before .before .cut-fields .ensures) (c .before .before .before .before .before .before .before .a2 .given .1) in omega arith
 
--- src/lib.rt:231:63
 part-float-within-end-4 : tie.Need-part-float-within-end-4
 part-float-within-end-4 c = let l = cut-three (c .before .before .before .before .before .before .before .before .before .cut-fields .ensures) (c .before .before .before .before .before .before .before .a2 .given .1) in omega arith
 
--- src/lib.rt:231:40
 float-within-requires-2 : tie.Need-float-within-requires-2
 float-within-requires-2 c κs = search needs
 
--- src/lib.rt:232:39
 enum-told : tie.Need-enum-told
 enum-told c = search needs
 
--- src/lib.rt:235:24
 enum-told-2 : tie.Need-enum-told-2
 enum-told-2 c = search needs
 
--- src/lib.rt:218:1
 returns : tie.Need-returns
-unfolding floatRange
-returns c = c .float-within .ensures ∙ range-two decimal leDecimal positiveDecimal (cut-two (c .before .before .before .before .before .before .cut-fields .ensures) (c .before .before .before .before .a .given .1) .0)
+returns c = c .float-within .ensures ∙ range-two decimal leDecimal positiveDecimal (cut-two (c .before .before .before .before .before .before .cut-fields .ensures) (c .before .before .before .before .a .given .1) .0) ∙ float-fields _
 
--- src/lib.rt:218:1
 returns-2 : tie.Need-returns-2
-unfolding floatRange
-returns-2 c = c .float-within2 .ensures ∙ range-stepped decimal leDecimal positiveDecimal (cut-three (c .before .before .before .before .before .before .before .before .before .before .before .cut-fields .ensures) (c .before .before .before .before .before .before .before .before .before .a2 .given .1) .0) (sym (ap decimalLimit (c .before .before .before .before .step .given .1)) ∙ c .before .before .before .before .before .before .float-step .ensures)
+returns-2 c = c .float-within2 .ensures ∙ range-stepped decimal leDecimal positiveDecimal (cut-three (c .before .before .before .before .before .before .before .before .before .before .before .cut-fields .ensures) (c .before .before .before .before .before .before .before .before .before .a2 .given .1) .0) (sym (ap decimalLimit (c .before .before .before .before .step .given .1)) ∙ c .before .before .before .before .before .before .float-step .ensures) ∙ float-fields _
 
--- src/lib.rt:218:1
 returns-3 : tie.Need-returns-3
-unfolding floatRange
-returns-3 c = range-stepped decimal leDecimal positiveDecimal (cut-three (c .before .before .before .before .before .before .before .cut-fields .ensures) (c .before .before .before .before .before .a2 .given .1) .0) (sym (ap decimalLimit (c .enum-told .given .1)) ∙ c .before .before .float-step .ensures)
+returns-3 c = range-stepped decimal leDecimal positiveDecimal (cut-three (c .before .before .before .before .before .before .before .cut-fields .ensures) (c .before .before .before .before .before .a2 .given .1) .0) (sym (ap decimalLimit (c .enum-told .given .1)) ∙ c .before .before .float-step .ensures) ∙ float-fields _
 
--- src/lib.rt:218:1
 returns-4 : tie.Need-returns-4
-unfolding floatRange
-returns-4 c = range-other decimal leDecimal positiveDecimal (cut-other (c .before .before .cut-fields .ensures) (c .enum-told2 .given .1))
+returns-4 c = range-other decimal leDecimal positiveDecimal (cut-other (c .before .before .cut-fields .ensures) (c .enum-told2 .given .1)) ∙ float-fields _
 
 pub float-range-spec : {M : Type 1} → statement M
 float-range-spec =

@@ -1,7 +1,8 @@
 use mathlib.Core.Path.{sym, ap, _∙_}
 use mathlib.Core.Option.{Option}
 use Rattle.numbers.specs.Decimal.{Scientific, decimalRead}
-use Rattle.ranges.specs.Ranges.{keep, positiveDecimal}
+use Rattle.ranges.specs.Ranges.{positiveDecimal}
+use Rattle.ranges.specs.Parts.{keep}
 use Rattle.ranges.proofs.Reading.{step-low, step-high}
 use borrow.Author.Needs.{needs}
 use Rattle.ranges.proofs.float_step.Statement.{statement}
@@ -12,35 +13,27 @@ use Rattle.numbers.proofs.compare.decimal_le.Reads as decimal-le-reads
 use Rattle.numbers.proofs.decimals.read_decimal.Reads as read-decimal-reads
 use Rattle.numbers.proofs.decimals.whole_decimal.Reads as whole-decimal-reads
 
--- src/lib.rt:185:11
 read-decimal-requires : tie.Need-read-decimal-requires
 read-decimal-requires c κs = search needs
 
--- src/lib.rt:186:28
 enum-known-d : tie.Need-enum-known-d
 enum-known-d c = search needs
 
--- src/lib.rt:187:17
 whole-decimal-requires : tie.Need-whole-decimal-requires
 whole-decimal-requires c κs = search needs
 
--- src/lib.rt:188:16
 decimal-le-requires : tie.Need-decimal-le-requires
 decimal-le-requires c κs = search needs
 
--- src/lib.rt:189:17
 returns : tie.Need-returns
 returns c = step-low (sym (ap decimalRead (c .before .before .before .before .d .given .1)) ∙ c .before .before .before .before .before .before .read-decimal .ensures) (c .before .decimal-le .ensures) (c .before .before .whole-decimal .ensures) (c .if1 .taken)
 
--- src/lib.rt:193:33
 enum-told : tie.Need-enum-told
 enum-told c = search needs
 
--- src/lib.rt:182:1
 returns-2 : tie.Need-returns-2
 returns-2 c = step-high (sym (ap decimalRead (c .before .before .before .before .d .given .1)) ∙ c .before .before .before .before .before .before .read-decimal .ensures) (c .before .decimal-le .ensures) (c .before .before .whole-decimal .ensures) (c .if1 .left)
 
--- src/lib.rt:182:1
 returns-3 : tie.Need-returns-3
 returns-3 c = ap (λ (o : Option Scientific). keep positiveDecimal o) (sym (ap decimalRead (c .enum-told .given .1)) ∙ c .before .before .read-decimal .ensures)
 

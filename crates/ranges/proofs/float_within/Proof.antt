@@ -11,47 +11,36 @@ use Rattle.ranges.proofs.float_within.Lts as lts
 use Rattle.ranges.proofs.float_limit.Reads as float-limit-reads
 use Rattle.ranges.proofs.float_ordered.Reads as float-ordered-reads
 
--- src/lib.rt:200:32
 float-limit-requires : tie.Need-float-limit-requires
 float-limit-requires c κs = search needs
 
--- src/lib.rt:200:27
 enum-known-a : tie.Need-enum-known-a
 enum-known-a c = search needs
 
--- src/lib.rt:201:9
 enum-told : tie.Need-enum-told
 enum-told c = search needs
 
--- src/lib.rt:201:9
 returns : tie.Need-returns
 returns c = within-first leDecimal _ (decimalLimit (c .before .before .before .before .before .args .step)) (sym (ap floatLimitOf (c .enum-told .given .1)) ∙ c .before .before .float-limit .ensures)
 
--- src/lib.rt:203:32
 float-limit-requires-2 : tie.Need-float-limit-requires-2
 float-limit-requires-2 c κs = search needs
 
--- src/lib.rt:203:27
 enum-known-b : tie.Need-enum-known-b
 enum-known-b c = search needs
 
--- src/lib.rt:204:9
 enum-told-2 : tie.Need-enum-told-2
 enum-told-2 c = search needs
 
--- src/lib.rt:204:9
 returns-2 : tie.Need-returns-2
 returns-2 c = within-second leDecimal (decimalLimit (c .before .before .before .before .before .before .before .before .before .args .step)) (sym (ap floatLimitOf (c .before .before .before .before .a .given .1)) ∙ c .before .before .before .before .before .before .float-limit .ensures) (sym (ap floatLimitOf (c .enum-told2 .given .1)) ∙ c .before .before .float-limit2 .ensures)
 
--- src/lib.rt:206:8
 float-ordered-requires : tie.Need-float-ordered-requires
 float-ordered-requires c κs = search needs
 
--- src/lib.rt:197:1
 returns-3 : tie.Need-returns-3
 returns-3 c = within-yes leDecimal (decimalLimit (c .before .before .before .before .before .before .before .before .before .before .before .before .args .step)) (sym (ap floatLimitOf (c .before .before .before .before .before .before .before .a .given .1)) ∙ c .before .before .before .before .before .before .before .before .before .float-limit .ensures) (sym (ap floatLimitOf (c .before .before .before .b .given .1)) ∙ c .before .before .before .before .before .float-limit2 .ensures) (c .before .float-ordered .ensures) (c .if1 .taken)
 
--- src/lib.rt:197:1
 returns-4 : tie.Need-returns-4
 returns-4 c = within-no leDecimal (decimalLimit (c .before .before .before .before .before .before .before .before .before .before .before .before .args .step)) (sym (ap floatLimitOf (c .before .before .before .before .before .before .before .a .given .1)) ∙ c .before .before .before .before .before .before .before .before .before .float-limit .ensures) (sym (ap floatLimitOf (c .before .before .before .b .given .1)) ∙ c .before .before .before .before .before .float-limit2 .ensures) (c .before .float-ordered .ensures) (c .if1 .left)
 

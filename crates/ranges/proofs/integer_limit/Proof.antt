@@ -8,27 +8,21 @@ use Rattle.ranges.proofs.integer_limit.Reads as reads
 use Rattle.ranges.proofs.integer_limit.Lts as lts
 use Rattle.numbers.proofs.integers.read_integer.Reads as read-integer-reads
 
--- src/lib.rt:72:9
 returns : tie.Need-returns
 returns c = bound-open integer (c .before .before .args .s .now) (c .if1 .taken)
 
--- src/lib.rt:74:11
 read-integer-requires : tie.Need-read-integer-requires
 read-integer-requires c κs = search needs
 
--- src/lib.rt:75:28
 enum-known-n : tie.Need-enum-known-n
 enum-known-n c = search needs
 
--- src/lib.rt:76:33
 enum-told : tie.Need-enum-told
 enum-told c = search needs
 
--- src/lib.rt:68:1
 returns-2 : tie.Need-returns-2
 returns-2 c = bound-read integer (c .before .before .before .before .before .before .args .s .now) (c .before .before .before .before .if1 .left) (sym (ap integerRead (c .before .n .given .1)) ∙ c .before .before .before .read-integer .ensures)
 
--- src/lib.rt:68:1
 returns-3 : tie.Need-returns-3
 returns-3 c = bound-read integer (c .before .before .before .before .before .args .s .now) (c .before .before .before .if1 .left) (sym (ap integerRead (c .enum-told .given .1)) ∙ c .before .before .read-integer .ensures)
 

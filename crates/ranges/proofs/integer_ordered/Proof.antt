@@ -10,33 +10,26 @@ use Rattle.ranges.proofs.integer_ordered.Tie as tie
 use Rattle.ranges.proofs.integer_ordered.Reads as reads
 use Rattle.ranges.proofs.integer_ordered.Lts as lts
 
--- src/lib.rt:84:19
 enum-known-min : tie.Need-enum-known-min
 enum-known-min c = search needs
 
--- src/lib.rt:85:23
 enum-known-max : tie.Need-enum-known-max
 enum-known-max c = search needs
 
--- src/lib.rt:86:28
 enum-told : tie.Need-enum-told
 enum-told c = search needs
 
--- src/lib.rt:88:24
 enum-told-2 : tie.Need-enum-told-2
 enum-told-2 c = search needs
 
--- src/lib.rt:80:1
 returns : tie.Need-returns
 returns c = both-bounds leZ (ap (limit (2 ^ 63)) (c .before .before .before .before .min .given .1)) (ap (limit (2 ^ 63)) (c .before .max .given .1)) (sym (stands-order (2 ^ 63) (c .before .before .before .before .min .given .0 .0) (c .before .max .given .0 .0)))
 
--- src/lib.rt:80:1
 returns-2 : tie.Need-returns-2
 returns-2 c = no-max leZ (ap (limit (2 ^ 63)) (c .before .before .before .min .given .1)) (ap (limit (2 ^ 63)) (c .enum-told .given .1))
 
--- src/lib.rt:80:1
 returns-3 : tie.Need-returns-3
-returns-3 c = no-min leZ _ (ap (limit (2 ^ 63)) (c .enum-told2 .given .1))
+returns-3 c = no-min leZ (limit (2 ^ 63) (c .before .before .args .max)) (ap (limit (2 ^ 63)) (c .enum-told2 .given .1))
 
 pub integer-ordered-spec : {M : Type 1} → statement M
 integer-ordered-spec =

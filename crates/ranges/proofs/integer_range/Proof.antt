@@ -3,8 +3,9 @@ use native.Mathlib.Omega.{arith}
 use lib.Signed.{leZ}
 use Rattle.numbers.specs.Integer.{integer}
 use Rattle.ranges.specs.Answers.{stepRead}
-use Rattle.ranges.specs.Ranges.{positive, integerRange}
+use Rattle.ranges.specs.Ranges.{positive}
 use Rattle.ranges.proofs.Cutting.{cut-two, cut-three, cut-other}
+use Rattle.ranges.proofs.Words.{integer-fields}
 use Rattle.ranges.proofs.Reading.{range-two, range-stepped, range-other, step-goes}
 use borrow.Author.Needs.{needs}
 use Rattle.ranges.proofs.integer_range.Statement.{statement}
@@ -15,125 +16,92 @@ use Rattle.ranges.proofs.cut_fields.Reads as cut-fields-reads
 use Rattle.ranges.proofs.integer_step.Reads as integer-step-reads
 use Rattle.ranges.proofs.integer_within.Reads as integer-within-reads
 
--- src/lib.rt:126:11
 cut-fields-requires : tie.Need-cut-fields-requires
 cut-fields-requires c κs = search needs
 
--- src/lib.rt:127:19
 enum-known-a : tie.Need-enum-known-a
 enum-known-a c = search needs
 
--- src/lib.rt:128:21
 add-m : tie.Need-add-m
 add-m c = let l = cut-two (c .before .before .before .cut-fields .ensures) (c .before .a .given .1) in omega arith
 
--- src/lib.rt:129:28
 sub-integer-within : tie.Need-sub-integer-within
 sub-integer-within c = let l = cut-two (c .before .before .before .cut-fields .ensures) (c .before .a .given .1) in omega arith
 
--- src/lib.rt:129:28
 part-integer-within-start : tie.Need-part-integer-within-start
 part-integer-within-start c = let l = cut-two (c .before .before .before .cut-fields .ensures) (c .before .a .given .1) in omega arith
 
--- src/lib.rt:129:28
 part-integer-within-end : tie.Need-part-integer-within-end
 part-integer-within-end c = let l = cut-two (c .before .before .before .cut-fields .ensures) (c .before .a .given .1) in omega arith
 
--- src/lib.rt:129:38
 sub-integer-within-2 : tie.Need-sub-integer-within-2
 sub-integer-within-2 c = let l = cut-two (c .before .before .before .before .cut-fields .ensures) (c .before .before .a .given .1) in omega arith
 
--- src/lib.rt:129:38
 part-integer-within-start-2 : tie.Need-part-integer-within-start-2
 part-integer-within-start-2 c = let l = cut-two (c .before .before .before .before .cut-fields .ensures) (c .before .before .a .given .1) in omega arith
 
--- src/lib.rt:129:38
 part-integer-within-end-2 : tie.Need-part-integer-within-end-2
 part-integer-within-end-2 c = let l = cut-two (c .before .before .before .before .cut-fields .ensures) (c .before .before .a .given .1) in omega arith
 
--- src/lib.rt:129:13
 integer-within-requires : tie.Need-integer-within-requires
 integer-within-requires c κs = search needs
 
--- src/lib.rt:131:21
 enum-known-a-2 : tie.Need-enum-known-a-2
 enum-known-a-2 c = search needs
 
--- src/lib.rt:132:21
 add-m-2 : tie.Need-add-m-2
 add-m-2 c = let l = cut-three (c .before .before .before .cut-fields .ensures) (c .before .a2 .given .1) in omega arith
 
--- src/lib.rt:133:21
 add-n : tie.Need-add-n
 add-n c = let l = cut-three (c .before .before .before .cut-fields .ensures) (c .before .a2 .given .1) in omega arith
 
--- src/lib.rt:134:37
 sub-integer-step : tie.Need-sub-integer-step
 sub-integer-step c = let l = cut-three (c .before .before .before .cut-fields .ensures) (c .before .a2 .given .1) in omega arith
 
--- src/lib.rt:134:37
 part-integer-step-start : tie.Need-part-integer-step-start
 part-integer-step-start c = let l = cut-three (c .before .before .before .cut-fields .ensures) (c .before .a2 .given .1) in omega arith
 
--- src/lib.rt:134:37
 part-integer-step-end : tie.Need-part-integer-step-end
 part-integer-step-end c = let l = cut-three (c .before .before .before .cut-fields .ensures) (c .before .a2 .given .1) in omega arith
 
--- src/lib.rt:134:17
 integer-step-requires : tie.Need-integer-step-requires
 integer-step-requires c κs = search needs
 
--- src/lib.rt:136:17
 returns : tie.Need-returns
-unfolding integerRange
-returns c = range-stepped integer leZ positive (cut-three (c .before .before .before .before .before .before .cut-fields .ensures) (c .before .before .before .before .a2 .given .1) .0) (sym (ap stepRead (c .if1 .taken)) ∙ c .before .integer-step .ensures)
+returns c = range-stepped integer leZ positive (cut-three (c .before .before .before .before .before .before .cut-fields .ensures) (c .before .before .before .before .a2 .given .1) .0) (sym (ap stepRead (c .if1 .taken)) ∙ c .before .integer-step .ensures) ∙ integer-fields _
 
--- src/lib.rt:138:28
 sub-integer-within-3 : tie.Need-sub-integer-within-3
 sub-integer-within-3 c = let l = cut-three (c .before .before .before .before .before .before .cut-fields .ensures) (c .before .before .before .before .a2 .given .1) in omega arith
 
--- src/lib.rt:138:28
 part-integer-within-start-3 : tie.Need-part-integer-within-start-3
 part-integer-within-start-3 c = let l = cut-three (c .before .before .before .before .before .before .cut-fields .ensures) (c .before .before .before .before .a2 .given .1) in omega arith
 
--- src/lib.rt:138:28
 part-integer-within-end-3 : tie.Need-part-integer-within-end-3
 part-integer-within-end-3 c = let l = cut-three (c .before .before .before .before .before .before .cut-fields .ensures) (c .before .before .before .before .a2 .given .1) in omega arith
 
--- src/lib.rt:138:38
 sub-integer-within-4 : tie.Need-sub-integer-within-4
 sub-integer-within-4 c = let l = cut-three (c .before .before .before .before .before .before .before .cut-fields .ensures) (c .before .before .before .before .before .a2 .given .1) in omega arith
 
--- src/lib.rt:138:38
 part-integer-within-start-4 : tie.Need-part-integer-within-start-4
 part-integer-within-start-4 c = let l = cut-three (c .before .before .before .before .before .before .before .cut-fields .ensures) (c .before .before .before .before .before .a2 .given .1) in omega arith
 
--- src/lib.rt:138:38
 part-integer-within-end-4 : tie.Need-part-integer-within-end-4
 part-integer-within-end-4 c = let l = cut-three (c .before .before .before .before .before .before .before .cut-fields .ensures) (c .before .before .before .before .before .a2 .given .1) in omega arith
 
--- src/lib.rt:138:13
 integer-within-requires-2 : tie.Need-integer-within-requires-2
 integer-within-requires-2 c κs = search needs
 
--- src/lib.rt:140:24
 enum-told : tie.Need-enum-told
 enum-told c = search needs
 
--- src/lib.rt:123:1
 returns-2 : tie.Need-returns-2
-unfolding integerRange
-returns-2 c = c .integer-within .ensures ∙ range-two integer leZ positive (cut-two (c .before .before .before .before .before .before .cut-fields .ensures) (c .before .before .before .before .a .given .1) .0)
+returns-2 c = c .integer-within .ensures ∙ range-two integer leZ positive (cut-two (c .before .before .before .before .before .before .cut-fields .ensures) (c .before .before .before .before .a .given .1) .0) ∙ integer-fields _
 
--- src/lib.rt:123:1
 returns-3 : tie.Need-returns-3
-unfolding integerRange
-returns-3 c = c .integer-within2 .ensures ∙ step-goes leZ _ _ (c .before .before .before .before .integer-step .result) (c .before .before .before .if1 .left) ∙ range-stepped integer leZ positive (cut-three (c .before .before .before .before .before .before .before .before .before .cut-fields .ensures) (c .before .before .before .before .before .before .before .a2 .given .1) .0) (c .before .before .before .before .integer-step .ensures)
+returns-3 c = c .integer-within2 .ensures ∙ step-goes leZ _ _ (c .before .before .before .before .integer-step .result) (c .before .before .before .if1 .left) ∙ range-stepped integer leZ positive (cut-three (c .before .before .before .before .before .before .before .before .before .cut-fields .ensures) (c .before .before .before .before .before .before .before .a2 .given .1) .0) (c .before .before .before .before .integer-step .ensures) ∙ integer-fields _
 
--- src/lib.rt:123:1
 returns-4 : tie.Need-returns-4
-unfolding integerRange
-returns-4 c = range-other integer leZ positive (cut-other (c .before .before .cut-fields .ensures) (c .enum-told .given .1))
+returns-4 c = range-other integer leZ positive (cut-other (c .before .before .cut-fields .ensures) (c .enum-told .given .1)) ∙ integer-fields _
 
 pub integer-range-spec : {M : Type 1} → statement M
 integer-range-spec =

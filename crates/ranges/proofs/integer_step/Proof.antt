@@ -4,7 +4,8 @@ use mathlib.Core.Option.{Option}
 use lib.IntN.{ℤ}
 use Rattle.numbers.specs.Integer.{integerRead}
 use Rattle.numbers.specs.Whole.{stands}
-use Rattle.ranges.specs.Ranges.{keep, positive}
+use Rattle.ranges.specs.Ranges.{positive}
+use Rattle.ranges.specs.Parts.{keep}
 use Rattle.ranges.specs.Answers.{stepRead}
 use Rattle.ranges.proofs.Reading.{step-above}
 use borrow.Author.Needs.{needs}
@@ -15,27 +16,21 @@ use Rattle.ranges.proofs.integer_step.Lts as lts
 use Rattle.numbers.proofs.integers.above_zero.Reads as above-zero-reads
 use Rattle.numbers.proofs.integers.read_integer.Reads as read-integer-reads
 
--- src/lib.rt:96:11
 read-integer-requires : tie.Need-read-integer-requires
 read-integer-requires c κs = search needs
 
--- src/lib.rt:97:28
 enum-known-n : tie.Need-enum-known-n
 enum-known-n c = search needs
 
--- src/lib.rt:97:34
 above-zero-requires : tie.Need-above-zero-requires
 above-zero-requires c κs = search needs
 
--- src/lib.rt:98:33
 enum-told : tie.Need-enum-told
 enum-told c = search needs
 
--- src/lib.rt:93:1
 returns : tie.Need-returns
 returns c = ap stepRead (c .above-zero .ensures) ∙ step-above (stands (2 ^ 63) (c .before .before .n .given .0 .0)) ∙ ap (λ (o : Option ℤ). keep positive o) (sym (ap integerRead (c .before .before .n .given .1)) ∙ c .before .before .before .before .read-integer .ensures)
 
--- src/lib.rt:93:1
 returns-2 : tie.Need-returns-2
 returns-2 c = ap (λ (o : Option ℤ). keep positive o) (sym (ap integerRead (c .enum-told .given .1)) ∙ c .before .before .read-integer .ensures)
 

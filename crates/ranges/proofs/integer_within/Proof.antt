@@ -11,47 +11,36 @@ use Rattle.ranges.proofs.integer_within.Lts as lts
 use Rattle.ranges.proofs.integer_limit.Reads as integer-limit-reads
 use Rattle.ranges.proofs.integer_ordered.Reads as integer-ordered-reads
 
--- src/lib.rt:105:34
 integer-limit-requires : tie.Need-integer-limit-requires
 integer-limit-requires c κs = search needs
 
--- src/lib.rt:105:29
 enum-known-a : tie.Need-enum-known-a
 enum-known-a c = search needs
 
--- src/lib.rt:106:9
 enum-told : tie.Need-enum-told
 enum-told c = search needs
 
--- src/lib.rt:106:9
 returns : tie.Need-returns
 returns c = within-first leZ _ (stepRead (c .before .before .before .before .before .args .step)) (sym (ap integerLimitOf (c .enum-told .given .1)) ∙ c .before .before .integer-limit .ensures)
 
--- src/lib.rt:108:34
 integer-limit-requires-2 : tie.Need-integer-limit-requires-2
 integer-limit-requires-2 c κs = search needs
 
--- src/lib.rt:108:29
 enum-known-b : tie.Need-enum-known-b
 enum-known-b c = search needs
 
--- src/lib.rt:109:9
 enum-told-2 : tie.Need-enum-told-2
 enum-told-2 c = search needs
 
--- src/lib.rt:109:9
 returns-2 : tie.Need-returns-2
 returns-2 c = within-second leZ (stepRead (c .before .before .before .before .before .before .before .before .before .args .step)) (sym (ap integerLimitOf (c .before .before .before .before .a .given .1)) ∙ c .before .before .before .before .before .before .integer-limit .ensures) (sym (ap integerLimitOf (c .enum-told2 .given .1)) ∙ c .before .before .integer-limit2 .ensures)
 
--- src/lib.rt:111:8
 integer-ordered-requires : tie.Need-integer-ordered-requires
 integer-ordered-requires c κs = search needs
 
--- src/lib.rt:102:1
 returns-3 : tie.Need-returns-3
 returns-3 c = within-yes leZ (stepRead (c .before .before .before .before .before .before .before .before .before .before .before .before .args .step)) (sym (ap integerLimitOf (c .before .before .before .before .before .before .before .a .given .1)) ∙ c .before .before .before .before .before .before .before .before .before .integer-limit .ensures) (sym (ap integerLimitOf (c .before .before .before .b .given .1)) ∙ c .before .before .before .before .before .integer-limit2 .ensures) (c .before .integer-ordered .ensures) (c .if1 .taken)
 
--- src/lib.rt:102:1
 returns-4 : tie.Need-returns-4
 returns-4 c = within-no leZ (stepRead (c .before .before .before .before .before .before .before .before .before .before .before .before .args .step)) (sym (ap integerLimitOf (c .before .before .before .before .before .before .before .a .given .1)) ∙ c .before .before .before .before .before .before .before .before .before .integer-limit .ensures) (sym (ap integerLimitOf (c .before .before .before .b .given .1)) ∙ c .before .before .before .before .before .integer-limit2 .ensures) (c .before .integer-ordered .ensures) (c .if1 .left)
 

@@ -11,43 +11,33 @@ use Rattle.numbers.proofs.compare.decimal_in_range.Reads as decimal-in-range-re
 use Rattle.numbers.proofs.decimals.read_decimal.Reads as read-decimal-reads
 use Rattle.ranges.proofs.float_range.Reads as float-range-reads
 
--- src/lib.rt:243:52
 float-range-requires : tie.Need-float-range-requires
 float-range-requires c κs = search needs
 
--- src/lib.rt:243:30
 enum-known-min : tie.Need-enum-known-min
 enum-known-min c = search needs
 
--- src/lib.rt:244:9
 enum-told : tie.Need-enum-told
 enum-told c = search needs
 
--- src/lib.rt:244:9
 returns : tie.Need-returns
 returns c = no-float-range (c .before .before .before .before .before .args .format .now) (c .before .before .before .before .before .args .s .now) (sym (ap floatRangeOf (c .enum-told .given .1)) ∙ c .before .before .float-range .ensures)
 
--- src/lib.rt:246:33
 read-decimal-requires : tie.Need-read-decimal-requires
 read-decimal-requires c κs = search needs
 
--- src/lib.rt:246:28
 enum-known-v : tie.Need-enum-known-v
 enum-known-v c = search needs
 
--- src/lib.rt:247:9
 enum-told-2 : tie.Need-enum-told-2
 enum-told-2 c = search needs
 
--- src/lib.rt:247:9
 returns-2 : tie.Need-returns-2
 returns-2 c = no-float (c .before .before .before .before .before .before .before .before .before .args .format .now) (c .before .before .before .before .before .before .before .before .before .args .s .now) (sym (ap floatRangeOf (c .before .before .before .before .min .given .1)) ∙ c .before .before .before .before .before .before .float-range .ensures) (sym (ap decimalRead (c .enum-told2 .given .1)) ∙ c .before .before .read-decimal .ensures)
 
--- src/lib.rt:249:5
 decimal-in-range-requires : tie.Need-decimal-in-range-requires
 decimal-in-range-requires c κs = search needs
 
--- src/lib.rt:240:1
 returns-3 : tie.Need-returns-3
 returns-3 c = in-floats (c .before .before .before .before .before .before .before .before .before .before .before .args .format .now) (c .before .before .before .before .before .before .before .before .before .before .before .args .s .now) (sym (ap floatRangeOf (c .before .before .before .before .before .before .min .given .1)) ∙ c .before .before .before .before .before .before .before .before .float-range .ensures) (sym (ap decimalRead (c .before .before .v .given .1)) ∙ c .before .before .before .before .read-decimal .ensures) (c .decimal-in-range .ensures)
 

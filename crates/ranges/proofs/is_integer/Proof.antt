@@ -14,43 +14,33 @@ use Rattle.numbers.proofs.integers.read_integer.Reads as read-integer-reads
 use Rattle.numbers.proofs.steps.in_range.Reads as in-range-reads
 use Rattle.ranges.proofs.integer_range.Reads as integer-range-reads
 
--- src/lib.rt:148:51
 integer-range-requires : tie.Need-integer-range-requires
 integer-range-requires c κs = search needs
 
--- src/lib.rt:148:32
 enum-known-min : tie.Need-enum-known-min
 enum-known-min c = search needs
 
--- src/lib.rt:149:9
 enum-told : tie.Need-enum-told
 enum-told c = search needs
 
--- src/lib.rt:149:9
 returns : tie.Need-returns
 returns c = no-range (c .before .before .before .before .before .args .format .now) (c .before .before .before .before .before .args .s .now) (sym (ap integerRangeOf (c .enum-told .given .1)) ∙ c .before .before .integer-range .ensures)
 
--- src/lib.rt:151:33
 read-integer-requires : tie.Need-read-integer-requires
 read-integer-requires c κs = search needs
 
--- src/lib.rt:151:28
 enum-known-v : tie.Need-enum-known-v
 enum-known-v c = search needs
 
--- src/lib.rt:152:9
 enum-told-2 : tie.Need-enum-told-2
 enum-told-2 c = search needs
 
--- src/lib.rt:152:9
 returns-2 : tie.Need-returns-2
 returns-2 c = no-integer (c .before .before .before .before .before .before .before .before .before .args .format .now) (c .before .before .before .before .before .before .before .before .before .args .s .now) (sym (ap integerRangeOf (c .before .before .before .before .min .given .1)) ∙ c .before .before .before .before .before .before .integer-range .ensures) (sym (ap integerRead (c .enum-told2 .given .1)) ∙ c .before .before .read-integer .ensures)
 
--- src/lib.rt:154:5
 in-range-requires : tie.Need-in-range-requires
 in-range-requires c κs = search needs
 
--- src/lib.rt:145:1
 returns-3 : tie.Need-returns-3
 returns-3 c = in-integers (c .before .before .before .before .before .before .before .before .before .before .before .args .format .now) (c .before .before .before .before .before .before .before .before .before .before .before .args .s .now) (c .before .before .before .before .before .before .min .given .0 .1 .1 .0) (sym (ap integerRangeOf (c .before .before .before .before .before .before .min .given .1)) ∙ c .before .before .before .before .before .before .before .before .integer-range .ensures) (sym (ap integerRead (c .before .before .v .given .1)) ∙ c .before .before .before .before .read-integer .ensures) (c .in-range .ensures (2 ^ 63))
 

@@ -10,35 +10,27 @@ use Rattle.numbers.proofs.compare.decimal_in_range.Reads as decimal-in-range-re
 use Rattle.numbers.proofs.decimals.read_decimal.Reads as read-decimal-reads
 use Rattle.numbers.proofs.decimals.whole_decimal.Reads as whole-decimal-reads
 
--- src/lib.rt:256:33
 read-decimal-requires : tie.Need-read-decimal-requires
 read-decimal-requires c κs = search needs
 
--- src/lib.rt:256:28
 enum-known-v : tie.Need-enum-known-v
 enum-known-v c = search needs
 
--- src/lib.rt:257:9
 enum-told : tie.Need-enum-told
 enum-told c = search needs
 
--- src/lib.rt:257:9
 returns : tie.Need-returns
 returns c = upTo-none (c .before .before .before .before .args .most) (c .before .before .before .before .args .s .now) (sym (ap decimalRead (c .enum-told .given .1)) ∙ c .before .before .read-decimal .ensures)
 
--- src/lib.rt:259:9
 whole-decimal-requires : tie.Need-whole-decimal-requires
 whole-decimal-requires c κs = search needs
 
--- src/lib.rt:260:9
 whole-decimal-requires-2 : tie.Need-whole-decimal-requires-2
 whole-decimal-requires-2 c κs = search needs
 
--- src/lib.rt:261:5
 decimal-in-range-requires : tie.Need-decimal-in-range-requires
 decimal-in-range-requires c κs = search needs
 
--- src/lib.rt:253:1
 returns-2 : tie.Need-returns-2
 returns-2 c = upTo-is (c .before .before .before .before .before .before .before .before .args .most) (c .before .before .before .before .before .before .before .before .args .s .now) _ _ (sym (ap decimalRead (c .before .before .before .before .v .given .1)) ∙ c .before .before .before .before .before .before .read-decimal .ensures) (c .decimal-in-range .ensures) (c .before .before .whole-decimal .ensures) (c .before .whole-decimal2 .ensures)
 

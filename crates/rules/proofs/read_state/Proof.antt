@@ -8,72 +8,56 @@ use Rattle.rules.proofs.read_state.Reads as reads
 use Rattle.rules.proofs.read_state.Lts as lts
 use Rattle.text.proofs.same.Reads as same-reads
 
--- src/lib.rt:28:22
 slice-aggregate-same : tie.Need-slice-aggregate-same
 slice-aggregate-same c = search needs
 
--- src/lib.rt:28:8
 same-requires : tie.Need-same-requires
 same-requires c κs = search needs
 
--- src/lib.rt:29:9
 returns : tie.Need-returns
 unfolding stateWorded
 returns c = pick-yes _ (told (c .before .same .ensures) (c .if1 .taken))
 
--- src/lib.rt:31:22
 slice-aggregate-same-2 : tie.Need-slice-aggregate-same-2
 slice-aggregate-same-2 c = search needs
 
--- src/lib.rt:31:8
 same-requires-2 : tie.Need-same-requires-2
 same-requires-2 c κs = search needs
 
--- src/lib.rt:32:9
 returns-2 : tie.Need-returns-2
 unfolding stateWorded
 returns-2 c = pick-no _ (told (c .before .before .before .before .same .ensures) (c .before .before .before .if1 .left)) (pick-yes _ (told (c .before .same2 .ensures) (c .if2 .taken)))
 
--- src/lib.rt:34:22
 slice-aggregate-same-3 : tie.Need-slice-aggregate-same-3
 slice-aggregate-same-3 c = search needs
 
--- src/lib.rt:34:8
 same-requires-3 : tie.Need-same-requires-3
 same-requires-3 c κs = search needs
 
--- src/lib.rt:35:9
 returns-3 : tie.Need-returns-3
 unfolding stateWorded
 returns-3 c = pick-no _ (told (c .before .before .before .before .before .before .before .same .ensures) (c .before .before .before .before .before .before .if1 .left)) (pick-no _ (told (c .before .before .before .before .same2 .ensures) (c .before .before .before .if2 .left)) (pick-yes _ (told (c .before .same3 .ensures) (c .if3 .taken))))
 
--- src/lib.rt:37:22
 slice-aggregate-same-4 : tie.Need-slice-aggregate-same-4
 slice-aggregate-same-4 c = search needs
 
--- src/lib.rt:37:8
 same-requires-4 : tie.Need-same-requires-4
 same-requires-4 c κs = search needs
 
--- src/lib.rt:38:9
 returns-4 : tie.Need-returns-4
 unfolding stateWorded
 returns-4 c = pick-no _ (told (c .before .before .before .before .before .before .before .before .before .before .same .ensures) (c .before .before .before .before .before .before .before .before .before .if1 .left)) (pick-no _ (told (c .before .before .before .before .before .before .before .same2 .ensures) (c .before .before .before .before .before .before .if2 .left)) (pick-no _ (told (c .before .before .before .before .same3 .ensures) (c .before .before .before .if3 .left)) (pick-yes _ (told (c .before .same4 .ensures) (c .if4 .taken)))))
 
--- src/lib.rt:40:22
 slice-aggregate-same-5 : tie.Need-slice-aggregate-same-5
 slice-aggregate-same-5 c = search needs
 
--- src/lib.rt:40:8
 same-requires-5 : tie.Need-same-requires-5
 same-requires-5 c κs = search needs
 
--- src/lib.rt:41:9
 returns-5 : tie.Need-returns-5
 unfolding stateWorded
 returns-5 c = pick-no _ (told (c .before .before .before .before .before .before .before .before .before .before .before .before .before .same .ensures) (c .before .before .before .before .before .before .before .before .before .before .before .before .if1 .left)) (pick-no _ (told (c .before .before .before .before .before .before .before .before .before .before .same2 .ensures) (c .before .before .before .before .before .before .before .before .before .if2 .left)) (pick-no _ (told (c .before .before .before .before .before .before .before .same3 .ensures) (c .before .before .before .before .before .before .if3 .left)) (pick-no _ (told (c .before .before .before .before .same4 .ensures) (c .before .before .before .if4 .left)) (pick-yes _ (told (c .before .same5 .ensures) (c .if5 .taken))))))
 
--- src/lib.rt:25:1
 returns-6 : tie.Need-returns-6
 unfolding stateWorded
 returns-6 c = pick-no _ (told (c .before .before .before .before .before .before .before .before .before .before .before .before .before .same .ensures) (c .before .before .before .before .before .before .before .before .before .before .before .before .if1 .left)) (pick-no _ (told (c .before .before .before .before .before .before .before .before .before .before .same2 .ensures) (c .before .before .before .before .before .before .before .before .before .if2 .left)) (pick-no _ (told (c .before .before .before .before .before .before .before .same3 .ensures) (c .before .before .before .before .before .before .if3 .left)) (pick-no _ (told (c .before .before .before .before .same4 .ensures) (c .before .before .before .if4 .left)) (pick-no _ (told (c .before .same5 .ensures) (c .if5 .left)) (refl)))))

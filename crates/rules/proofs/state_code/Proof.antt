@@ -6,47 +6,37 @@ use Rattle.rules.proofs.state_code.Tie as tie
 use Rattle.rules.proofs.state_code.Reads as reads
 use Rattle.rules.proofs.state_code.Lts as lts
 
--- src/lib.rt:51:30
 enum-told : tie.Need-enum-told
 enum-told c = search needs
 
--- src/lib.rt:52:31
 enum-told-2 : tie.Need-enum-told-2
 enum-told-2 c = search needs
 
--- src/lib.rt:53:38
 enum-told-3 : tie.Need-enum-told-3
 enum-told-3 c = search needs
 
--- src/lib.rt:54:34
 enum-told-4 : tie.Need-enum-told-4
 enum-told-4 c = search needs
 
--- src/lib.rt:55:30
 enum-told-5 : tie.Need-enum-told-5
 enum-told-5 c = search needs
 
--- src/lib.rt:47:1
 returns : tie.Need-returns
 unfolding codeOf
 returns c = sym (ap codeOf (c .enum-told .given .1))
 
--- src/lib.rt:47:1
 returns-2 : tie.Need-returns-2
 unfolding codeOf
 returns-2 c = sym (ap codeOf (c .enum-told2 .given .1))
 
--- src/lib.rt:47:1
 returns-3 : tie.Need-returns-3
 unfolding codeOf
 returns-3 c = sym (ap codeOf (c .enum-told3 .given .1))
 
--- src/lib.rt:47:1
 returns-4 : tie.Need-returns-4
 unfolding codeOf
 returns-4 c = sym (ap codeOf (c .enum-told4 .given .1))
 
--- src/lib.rt:47:1
 returns-5 : tie.Need-returns-5
 unfolding codeOf
 returns-5 c = sym (ap codeOf (c .enum-told5 .given .1))

@@ -1,6 +1,6 @@
 use borrow.Author.Tests.{not-true, not-false}
 use Rattle.lookup.proofs.Theorems.{unsound}
-use Rattle.table.proofs.Obeying.{do-refuse, do-keep, do-remove, do-state, do-create, do-undescribe, do-describe, do-fill}
+use Rattle.table.proofs.Obeying.{carried, not-carried}
 use borrow.Author.Needs.{needs}
 use Rattle.table.proofs.message.Statement.{statement}
 use Rattle.table.proofs.message.Tie as tie
@@ -72,49 +72,49 @@ same-length-2 : tie.Need-same-length-2
 same-length-2 c = search needs
 
 returns-2 : tie.Need-returns-2
-returns-2 c = do-refuse _ _ _ (c .before .before .before .before .before .before .sound .ensures .0 (not-false _ (c .before .before .before .before .before .if1 .left))) (c .before .before .before .judge .ensures) _ (c .before .v .given .1)
+returns-2 c = not-carried _ _ _ (c .before .before .before .before .before .before .sound .ensures .0 (not-false _ (c .before .before .before .before .before .if1 .left))) (c .before .before .before .judge .ensures) _ (c .before .v .given .1)
 
 same-length-3 : tie.Need-same-length-3
 same-length-3 c = search needs
 
 returns-3 : tie.Need-returns-3
-returns-3 c = do-keep _ _ _ (c .before .before .before .before .before .before .before .before .before .sound .ensures .0 (not-false _ (c .before .before .before .before .before .before .before .before .if1 .left))) (c .before .before .before .before .before .before .judge .ensures) _ _ (c .before .before .before .before .enum-told .given .1) (c .before .before .keep .ensures)
+returns-3 c = carried _ _ _ (c .before .before .before .before .before .before .before .before .before .sound .ensures .0 (not-false _ (c .before .before .before .before .before .before .before .before .if1 .left))) (c .before .before .before .before .before .before .judge .ensures) _ _ _ (c .before .before .before .before .enum-told .given .1) (c .before .before .keep .ensures _ _ _)
 
 same-length-4 : tie.Need-same-length-4
 same-length-4 c = search needs
 
 returns-4 : tie.Need-returns-4
-returns-4 c = do-remove _ _ _ (c .before .before .before .before .before .before .before .before .before .before .sound .ensures .0 (not-false _ (c .before .before .before .before .before .before .before .before .before .if1 .left))) (c .before .before .before .before .before .before .before .judge .ensures) _ _ _ (c .before .before .before .before .before .v2 .given .1) (c .before .before .remove .ensures)
+returns-4 c = carried _ _ _ (c .before .before .before .before .before .before .before .before .before .before .sound .ensures .0 (not-false _ (c .before .before .before .before .before .before .before .before .before .if1 .left))) (c .before .before .before .before .before .before .before .judge .ensures) _ _ _ (c .before .before .before .before .before .v2 .given .1) (c .before .before .remove .ensures _ _ _)
 
 same-length-5 : tie.Need-same-length-5
 same-length-5 c = search needs
 
 returns-5 : tie.Need-returns-5
-returns-5 c = do-state _ _ _ (c .before .before .before .before .before .before .before .before .before .before .sound .ensures .0 (not-false _ (c .before .before .before .before .before .before .before .before .before .if1 .left))) (c .before .before .before .before .before .before .before .judge .ensures) _ _ _ _ (c .before .before .before .before .before .v3 .given .1) (c .before .before .set-state .ensures)
+returns-5 c = carried _ _ _ (c .before .before .before .before .before .before .before .before .before .before .sound .ensures .0 (not-false _ (c .before .before .before .before .before .before .before .before .before .if1 .left))) (c .before .before .before .before .before .before .before .judge .ensures) _ _ _ (c .before .before .before .before .before .v3 .given .1) (c .before .before .set-state .ensures _ _ _)
 
 same-length-6 : tie.Need-same-length-6
 same-length-6 c = search needs
 
 returns-6 : tie.Need-returns-6
-returns-6 c = do-create _ _ _ (c .before .before .before .before .before .before .before .before .before .before .before .sound .ensures .0 (not-false _ (c .before .before .before .before .before .before .before .before .before .before .if1 .left))) (c .before .before .before .before .before .before .before .before .judge .ensures) _ _ _ _ _ _ (c .before .before .before .before .slice .ensures) (c .before .before .before .before .before .before .v4 .given .1) (c .before .before .create .ensures)
+returns-6 c = carried _ _ _ (c .before .before .before .before .before .before .before .before .before .before .before .sound .ensures .0 (not-false _ (c .before .before .before .before .before .before .before .before .before .before .if1 .left))) (c .before .before .before .before .before .before .before .before .judge .ensures) _ _ _ (c .before .before .before .before .before .before .v4 .given .1) (c .before .before .create .ensures _ _ _ _ (c .before .before .before .before .slice .ensures))
 
 same-length-7 : tie.Need-same-length-7
 same-length-7 c = search needs
 
 returns-7 : tie.Need-returns-7
-returns-7 c = do-undescribe _ _ _ (c .before .before .before .before .before .before .before .before .before .before .sound .ensures .0 (not-false _ (c .before .before .before .before .before .before .before .before .before .if1 .left))) (c .before .before .before .before .before .before .before .judge .ensures) _ _ _ (c .before .before .before .before .before .v5 .given .1) (c .before .before .undescribe .ensures)
+returns-7 c = carried _ _ _ (c .before .before .before .before .before .before .before .before .before .before .sound .ensures .0 (not-false _ (c .before .before .before .before .before .before .before .before .before .if1 .left))) (c .before .before .before .before .before .before .before .judge .ensures) _ _ _ (c .before .before .before .before .before .v5 .given .1) (c .before .before .undescribe .ensures _ _ _)
 
 same-length-8 : tie.Need-same-length-8
 same-length-8 c = search needs
 
 returns-8 : tie.Need-returns-8
-returns-8 c = do-describe _ _ _ (c .before .before .before .before .before .before .before .before .before .before .before .sound .ensures .0 (not-false _ (c .before .before .before .before .before .before .before .before .before .before .if1 .left))) (c .before .before .before .before .before .before .before .before .judge .ensures) _ _ _ _ _ (c .before .before .before .before .slice2 .ensures) (c .before .before .before .before .before .before .v6 .given .1) (c .before .before .describe .ensures)
+returns-8 c = carried _ _ _ (c .before .before .before .before .before .before .before .before .before .before .before .sound .ensures .0 (not-false _ (c .before .before .before .before .before .before .before .before .before .before .if1 .left))) (c .before .before .before .before .before .before .before .before .judge .ensures) _ _ _ (c .before .before .before .before .before .before .v6 .given .1) (c .before .before .describe .ensures _ _ _ (c .before .before .before .before .slice2 .ensures))
 
 same-length-9 : tie.Need-same-length-9
 same-length-9 c = search needs
 
 returns-9 : tie.Need-returns-9
-returns-9 c = do-fill _ _ _ (c .before .before .before .before .before .before .before .before .before .before .sound .ensures .0 (not-false _ (c .before .before .before .before .before .before .before .before .before .if1 .left))) (c .before .before .before .before .before .before .before .judge .ensures) _ _ _ _ _ (c .before .before .before .before .before .v7 .given .1) (c .before .before .fill .ensures)
+returns-9 c = carried _ _ _ (c .before .before .before .before .before .before .before .before .before .before .sound .ensures .0 (not-false _ (c .before .before .before .before .before .before .before .before .before .if1 .left))) (c .before .before .before .before .before .before .before .judge .ensures) _ _ _ (c .before .before .before .before .before .v7 .given .1) (c .before .before .fill .ensures _ _)
 
 pub message-spec : {M : Type 1} → statement M
 message-spec =

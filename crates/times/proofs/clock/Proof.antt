@@ -11,37 +11,29 @@ use Rattle.times.proofs.clock.Lts as lts
 use Rattle.times.proofs.has.Reads as has-reads
 use Rattle.times.proofs.pair.Reads as pair-reads
 
--- src/lib.rt:122:13
 pair-requires : tie.Need-pair-requires
 pair-requires c κs = search needs
 
--- src/lib.rt:123:9
 returns : tie.Need-returns
 unfolding isClock
 returns c = stop _ (above 23 (c .before .pair .ensures) (c .if1 .taken))
 
--- src/lib.rt:125:16
 add-has : tie.Need-add-has
 add-has c = search needs
 
--- src/lib.rt:125:9
 has-requires : tie.Need-has-requires
 has-requires c κs = search needs
 
--- src/lib.rt:126:9
 returns-2 : tie.Need-returns-2
 unfolding isClock
 returns-2 c = go (within 23 (c .before .before .before .pair .ensures) (c .before .before .if1 .left)) (stop _ (no (c .before .has .ensures) (c .if2 .taken)))
 
--- src/lib.rt:128:13
 add-pair : tie.Need-add-pair
 add-pair c = search needs
 
--- src/lib.rt:128:5
 pair-requires-2 : tie.Need-pair-requires-2
 pair-requires-2 c κs = search needs
 
--- src/lib.rt:118:1
 returns-3 : tie.Need-returns-3
 unfolding isClock
 returns-3 c = go (within 23 (c .before .before .before .before .pair .ensures) (c .before .before .before .if1 .left)) (go (yes (c .before .before .has .ensures) (c .before .if2 .left)) (ap (λ (p : ℕ). leb p 59) (c .pair2 .ensures)))

@@ -10,71 +10,55 @@ use Rattle.times.proofs.has.Reads as has-reads
 use Rattle.times.proofs.is_date.Reads as is-date-reads
 use Rattle.times.proofs.pair.Reads as pair-reads
 
--- src/lib.rt:95:9
 pair-requires : tie.Need-pair-requires
 pair-requires c κs = search needs
 
--- src/lib.rt:96:9
 pair-requires-2 : tie.Need-pair-requires-2
 pair-requires-2 c κs = search needs
 
--- src/lib.rt:98:9
 returns : tie.Need-returns
 unfolding dateAt
 returns c = stop _ (above 99 (c .before .before .pair .ensures) (c .if1 .taken))
 
--- src/lib.rt:101:9
 returns-2 : tie.Need-returns-2
 unfolding dateAt
 returns-2 c = go (within 99 (c .before .before .before .pair .ensures) (c .before .if1 .left)) (stop _ (above 99 (c .before .before .pair2 .ensures) (c .if2 .taken)))
 
--- src/lib.rt:103:9
 has-requires : tie.Need-has-requires
 has-requires c κs = search needs
 
--- src/lib.rt:104:9
 returns-3 : tie.Need-returns-3
 unfolding dateAt
 returns-3 c = go (within 99 (c .before .before .before .before .before .pair .ensures) (c .before .before .before .if1 .left)) (go (within 99 (c .before .before .before .before .pair2 .ensures) (c .before .before .if2 .left)) (stop _ (no (c .before .has .ensures) (c .if3 .taken))))
 
--- src/lib.rt:106:9
 has-requires-2 : tie.Need-has-requires-2
 has-requires-2 c κs = search needs
 
--- src/lib.rt:107:9
 returns-4 : tie.Need-returns-4
 unfolding dateAt
 returns-4 c = go (within 99 (c .before .before .before .before .before .before .before .pair .ensures) (c .before .before .before .before .before .if1 .left)) (go (within 99 (c .before .before .before .before .before .before .pair2 .ensures) (c .before .before .before .before .if2 .left)) (go (yes (c .before .before .before .has .ensures) (c .before .before .if3 .left)) (stop _ (no (c .before .has2 .ensures) (c .if4 .taken)))))
 
--- src/lib.rt:110:16
 cast-is-date : tie.Need-cast-is-date
 cast-is-date c = search needs
 
--- src/lib.rt:110:9
 mul-is-date : tie.Need-mul-is-date
 mul-is-date c = search needs
 
--- src/lib.rt:110:35
 cast-is-date-2 : tie.Need-cast-is-date-2
 cast-is-date-2 c = search needs
 
--- src/lib.rt:110:9
 add-is-date : tie.Need-add-is-date
 add-is-date c = search needs
 
--- src/lib.rt:111:9
 pair-requires-3 : tie.Need-pair-requires-3
 pair-requires-3 c κs = search needs
 
--- src/lib.rt:112:9
 pair-requires-4 : tie.Need-pair-requires-4
 pair-requires-4 c κs = search needs
 
--- src/lib.rt:109:5
 is-date-requires : tie.Need-is-date-requires
 is-date-requires c κs = search needs
 
--- src/lib.rt:92:1
 returns-5 : tie.Need-returns-5
 unfolding dateAt
 returns-5 c = go (within 99 (c .before .before .before .before .before .before .before .before .before .before .pair .ensures) (c .before .before .before .before .before .before .before .before .if1 .left)) (go (within 99 (c .before .before .before .before .before .before .before .before .before .pair2 .ensures) (c .before .before .before .before .before .before .before .if2 .left)) (go (yes (c .before .before .before .before .before .before .has .ensures) (c .before .before .before .before .before .if3 .left)) (go (yes (c .before .before .before .before .has2 .ensures) (c .before .before .before .if4 .left)) (date-same (c .is-date .ensures) (c .before .before .before .before .before .before .before .before .before .before .pair .ensures) (c .before .before .before .before .before .before .before .before .before .pair2 .ensures) (c .before .before .pair3 .ensures) (c .before .pair4 .ensures)))))

@@ -14,33 +14,26 @@ use Rattle.times.proofs.digits_end.Reads as digits-end-reads
 use Rattle.times.proofs.has.Reads as has-reads
 use Rattle.times.proofs.zone.Reads as zone-reads
 
--- src/lib.rt:191:9
 has-requires : tie.Need-has-requires
 has-requires c κs = search needs
 
--- src/lib.rt:192:9
 zone-requires : tie.Need-zone-requires
 zone-requires c κs = search needs
 
--- src/lib.rt:192:9
 returns : tie.Need-returns
 unfolding endingAt
 returns c = cond-no _ (no (c .before .before .has .ensures) (c .before .if1 .taken)) (c .zone .ensures)
 
--- src/lib.rt:194:9
 digits-end-requires : tie.Need-digits-end-requires
 digits-end-requires c κs = search needs
 
--- src/lib.rt:196:9
 returns-2 : tie.Need-returns-2
 unfolding endingAt
 returns-2 c = cond-yes _ (yes (c .before .before .before .has .ensures) (c .before .before .if1 .left)) (stop _ (none 20 _ (c .before .digits-end .ensures) (c .if2 .taken)))
 
--- src/lib.rt:198:5
 zone-requires-2 : tie.Need-zone-requires-2
 zone-requires-2 c κs = omega (arith, digits-most 9 (drop 20 (c .before .before .before .before .before .args .s .now)), c .before .digits-end .ensures)
 
--- src/lib.rt:188:1
 returns-3 : tie.Need-returns-3
 unfolding endingAt
 returns-3 c = cond-yes _ (yes (c .before .before .before .before .has .ensures) (c .before .before .before .if1 .left)) (go (some 20 _ (c .before .before .digits-end .ensures) (c .before .if2 .left)) (c .zone2 .ensures ∙ ap (λ (e : ℕ). zoneAt (c .before .before .before .before .before .before .args .s .now) e) (c .before .before .digits-end .ensures)))

@@ -6,15 +6,12 @@ use Rattle.times.proofs.has.Tie as tie
 use Rattle.times.proofs.has.Reads as reads
 use Rattle.times.proofs.has.Lts as lts
 
--- src/lib.rt:17:23
 shared-slice-read-result : tie.Need-shared-slice-read-result
 shared-slice-read-result c = search needs
 
--- src/lib.rt:14:1
 returns : tie.Need-returns
 returns c = has-here (c .before .before .args .s .now) (c .before .before .args .at) (c .before .before .args .b) (c .before .if1 .taken)
 
--- src/lib.rt:14:1
 returns-2 : tie.Need-returns-2
 returns-2 c = let a = c .before .args in has-past (a .s .now) (a .at) (a .b) (c .if1 .left) (omega arith)
 

@@ -7,23 +7,18 @@ use Rattle.times.proofs.is_date.Reads as reads
 use Rattle.times.proofs.is_date.Lts as lts
 use Rattle.times.proofs.month_length.Reads as month-length-reads
 
--- src/lib.rt:81:9
 returns : tie.Need-returns
 returns c = no-month _ _ _ (c .if1 .taken)
 
--- src/lib.rt:84:9
 returns-2 : tie.Need-returns-2
 returns-2 c = past-month _ _ _ (c .if2 .taken)
 
--- src/lib.rt:87:9
 returns-3 : tie.Need-returns-3
 returns-3 c = no-day _ _ _ (c .if3 .taken)
 
--- src/lib.rt:89:12
 month-length-requires : tie.Need-month-length-requires
 month-length-requires c κs = search needs
 
--- src/lib.rt:77:1
 returns-4 : tie.Need-returns-4
 returns-4 c = in-month _ _ _ (c .before .before .before .if1 .left) (c .before .before .if2 .left) (c .before .if3 .left) (c .month-length .ensures)
 

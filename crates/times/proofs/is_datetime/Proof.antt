@@ -10,27 +10,21 @@ use Rattle.times.proofs.date.Reads as date-reads
 use Rattle.times.proofs.ending.Reads as ending-reads
 use Rattle.times.proofs.time.Reads as time-reads
 
--- src/lib.rt:201:9
 date-requires : tie.Need-date-requires
 date-requires c κs = search needs
 
--- src/lib.rt:202:9
 returns : tie.Need-returns
 returns c = stop _ (no (c .before .date .ensures) (c .if1 .taken)) ∙ sym (datetime-reads _)
 
--- src/lib.rt:204:9
 time-requires : tie.Need-time-requires
 time-requires c κs = search needs
 
--- src/lib.rt:205:9
 returns-2 : tie.Need-returns-2
 returns-2 c = go (yes (c .before .before .before .date .ensures) (c .before .before .if1 .left)) (stop _ (no (c .before .time .ensures) (c .if2 .taken))) ∙ sym (datetime-reads _)
 
--- src/lib.rt:207:5
 ending-requires : tie.Need-ending-requires
 ending-requires c κs = search needs
 
--- src/lib.rt:198:1
 returns-3 : tie.Need-returns-3
 returns-3 c = go (yes (c .before .before .before .before .date .ensures) (c .before .before .before .if1 .left)) (go (yes (c .before .before .time .ensures) (c .before .if2 .left)) (c .ending .ensures)) ∙ sym (datetime-reads _)
 

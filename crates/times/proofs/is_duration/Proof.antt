@@ -11,39 +11,30 @@ use Rattle.times.proofs.is_duration.Lts as lts
 use Rattle.times.proofs.has.Reads as has-reads
 use Rattle.times.proofs.span_end.Reads as span-end-reads
 
--- src/lib.rt:225:9
 has-requires : tie.Need-has-requires
 has-requires c κs = search needs
 
--- src/lib.rt:226:9
 returns : tie.Need-returns
 returns c = stop _ (no (c .before .has .ensures) (c .if1 .taken)) ∙ sym (duration-reads _)
 
--- src/lib.rt:228:9
 has-requires-2 : tie.Need-has-requires-2
 has-requires-2 c κs = search needs
 
--- src/lib.rt:229:9
 returns-2 : tie.Need-returns-2
 returns-2 c = go (yes (c .before .before .before .has .ensures) (c .before .before .if1 .left)) (stop _ (no (c .before .has2 .ensures) (c .if2 .taken))) ∙ sym (duration-reads _)
 
--- src/lib.rt:231:9
 span-end-requires : tie.Need-span-end-requires
 span-end-requires c κs = omega arith
 
--- src/lib.rt:232:9
 span-end-requires-2 : tie.Need-span-end-requires-2
 span-end-requires-2 c κs = omega (arith, c .span-end .ensures, end-most (c .before .before .before .before .before .before .args .s .now) 2 72 .1)
 
--- src/lib.rt:233:9
 span-end-requires-3 : tie.Need-span-end-requires-3
 span-end-requires-3 c κs = let s = c .before .before .before .before .before .before .before .args .s .now in let h = c .before .span-end .result in omega (arith, c .before .span-end .ensures, c .span-end2 .ensures, end-most s 2 72 .1, end-most s h 77 .1)
 
--- src/lib.rt:235:9
 returns-3 : tie.Need-returns-3
 returns-3 c = go (yes (c .before .before .before .before .before .before .before .has .ensures) (c .before .before .before .before .before .before .if1 .left)) (go (yes (c .before .before .before .before .before .has2 .ensures) (c .before .before .before .before .if2 .left)) (no-span _ (c .before .before .before .span-end .ensures) (c .before .before .span-end2 .ensures) (c .before .span-end3 .ensures) (c .if3 .taken))) ∙ sym (duration-reads _)
 
--- src/lib.rt:222:1
 returns-4 : tie.Need-returns-4
 returns-4 c = go (yes (c .before .before .before .before .before .before .before .has .ensures) (c .before .before .before .before .before .before .if1 .left)) (go (yes (c .before .before .before .before .before .has2 .ensures) (c .before .before .before .before .if2 .left)) (spans _ (c .before .before .before .span-end .ensures) (c .before .before .span-end2 .ensures) (c .before .span-end3 .ensures) (c .if3 .left))) ∙ sym (duration-reads _)
 

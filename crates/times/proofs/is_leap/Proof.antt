@@ -9,17 +9,14 @@ use Rattle.times.proofs.is_leap.Tie as tie
 use Rattle.times.proofs.is_leap.Reads as reads
 use Rattle.times.proofs.is_leap.Lts as lts
 
--- src/lib.rt:57:9
 returns : tie.Need-returns
 unfolding isLeap
 returns c = stop _ (ne-eqb _ 0 (c .if1 .taken))
 
--- src/lib.rt:60:9
 returns-2 : tie.Need-returns-2
 unfolding isLeap
 returns-2 c = go (eq-eqb _ 0 (c .before .if1 .left)) (rw (ne-eqb _ 0 (c .if2 .taken)))
 
--- src/lib.rt:53:1
 returns-3 : tie.Need-returns-3
 unfolding isLeap
 returns-3 c = go (eq-eqb _ 0 (c .before .if1 .left)) (rw (eq-eqb _ 0 (c .if2 .left)))

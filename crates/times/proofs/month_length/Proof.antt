@@ -7,32 +7,25 @@ use Rattle.times.proofs.month_length.Reads as reads
 use Rattle.times.proofs.month_length.Lts as lts
 use Rattle.times.proofs.is_leap.Reads as is-leap-reads
 
--- src/lib.rt:69:33
 sub-length : tie.Need-sub-length
 sub-length c = search needs
 
--- src/lib.rt:69:32
 cast-length : tie.Need-cast-length
 cast-length c = search needs
 
--- src/lib.rt:69:18
 array-read-length : tie.Need-array-read-length
 array-read-length c = search needs
 
--- src/lib.rt:71:9
 returns : tie.Need-returns
 unfolding monthLengths
 returns c = other-month (c .before .args .year) (c .before .args .month) (c .if1 .taken)
 
--- src/lib.rt:73:8
 is-leap-requires : tie.Need-is-leap-requires
 is-leap-requires c κs = search needs
 
--- src/lib.rt:65:1
 returns-2 : tie.Need-returns-2
 returns-2 c = leap-february _ _ (c .before .before .if1 .left) (c .before .is-leap .ensures) (c .if2 .taken)
 
--- src/lib.rt:65:1
 returns-3 : tie.Need-returns-3
 unfolding monthLengths
 returns-3 c = february (c .before .before .before .args .year) (c .before .before .before .args .month) (c .before .before .if1 .left) (c .before .is-leap .ensures) (c .if2 .left)

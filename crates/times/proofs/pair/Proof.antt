@@ -8,35 +8,27 @@ use Rattle.times.proofs.pair.Reads as reads
 use Rattle.times.proofs.pair.Lts as lts
 use Rattle.times.proofs.digit.Reads as digit-reads
 
--- src/lib.rt:42:9
 digit-requires : tie.Need-digit-requires
 digit-requires c κs = search needs
 
--- src/lib.rt:43:22
 add-digit : tie.Need-add-digit
 add-digit c = search needs
 
--- src/lib.rt:43:9
 digit-requires-2 : tie.Need-digit-requires-2
 digit-requires-2 c κs = search needs
 
--- src/lib.rt:45:9
 returns : tie.Need-returns
 returns c = pair-first (byteAt (c .before .before .before .before .args .s .now) (c .before .before .before .before .args .at)) (byteAt (c .before .before .before .before .args .s .now) (c .before .before .before .before .args .at + 1)) (c .before .before .digit .ensures) (c .before .digit2 .ensures) (c .if1 .taken)
 
--- src/lib.rt:48:9
 returns-2 : tie.Need-returns-2
 returns-2 c = pair-second (byteAt (c .before .before .before .before .before .args .s .now) (c .before .before .before .before .before .args .at)) (byteAt (c .before .before .before .before .before .args .s .now) (c .before .before .before .before .before .args .at + 1)) (c .before .before .before .digit .ensures) (c .before .before .digit2 .ensures) (c .if2 .taken)
 
--- src/lib.rt:50:5
 mul-result : tie.Need-mul-result
 mul-result c = search needs
 
--- src/lib.rt:50:5
 add-result : tie.Need-add-result
 add-result c = search needs
 
--- src/lib.rt:38:1
 returns-3 : tie.Need-returns-3
 returns-3 c = pair-is (byteAt (c .before .before .before .before .before .args .s .now) (c .before .before .before .before .before .args .at)) (byteAt (c .before .before .before .before .before .args .s .now) (c .before .before .before .before .before .args .at + 1)) (c .before .before .before .digit .ensures) (c .before .before .digit2 .ensures) (c .before .if1 .left) (c .if2 .left)
 

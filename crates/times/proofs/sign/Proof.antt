@@ -7,20 +7,16 @@ use Rattle.times.proofs.sign.Reads as reads
 use Rattle.times.proofs.sign.Lts as lts
 use Rattle.times.proofs.has.Reads as has-reads
 
--- src/lib.rt:164:8
 has-requires : tie.Need-has-requires
 has-requires c κs = search needs
 
--- src/lib.rt:164:41
 has-requires-2 : tie.Need-has-requires-2
 has-requires-2 c κs = search needs
 
--- src/lib.rt:161:1
 returns : tie.Need-returns
 unfolding isSign
 returns c = or-yes _ (told (c .before .has .ensures) (c .if1 .taken))
 
--- src/lib.rt:161:1
 returns-2 : tie.Need-returns-2
 unfolding isSign
 returns-2 c = or-no (told (c .before .before .has .ensures) (c .before .if1 .left)) (c .has2 .ensures)

@@ -10,27 +10,21 @@ use Rattle.times.proofs.span_end.Lts as lts
 use Rattle.times.proofs.digits_end.Reads as digits-end-reads
 use Rattle.times.proofs.has.Reads as has-reads
 
--- src/lib.rt:215:9
 digits-end-requires : tie.Need-digits-end-requires
 digits-end-requires c κs = search needs
 
--- src/lib.rt:217:9
 returns : tie.Need-returns
 returns c = span-none _ _ _ (c .before .digits-end .ensures) (c .if1 .taken)
 
--- src/lib.rt:219:8
 has-requires : tie.Need-has-requires
 has-requires c κs = search needs
 
--- src/lib.rt:219:28
 add-result : tie.Need-add-result
 add-result c = omega (arith, digits-most 9 (drop (c .before .before .before .before .before .args .at) (c .before .before .before .before .before .args .s .now)), c .before .before .before .digits-end .ensures)
 
--- src/lib.rt:211:1
 returns-2 : tie.Need-returns-2
 returns-2 c = span-is _ _ _ (c .before .before .before .digits-end .ensures) (c .before .before .if1 .left) (c .before .has .ensures) (c .if2 .taken)
 
--- src/lib.rt:211:1
 returns-3 : tie.Need-returns-3
 returns-3 c = span-other _ _ _ (c .before .before .before .digits-end .ensures) (c .before .before .if1 .left) (c .before .has .ensures) (c .if2 .left)
 

@@ -12,38 +12,30 @@ use Rattle.times.proofs.clock.Reads as clock-reads
 use Rattle.times.proofs.has.Reads as has-reads
 use Rattle.times.proofs.pair.Reads as pair-reads
 
--- src/lib.rt:135:9
 has-requires : tie.Need-has-requires
 has-requires c κs = search needs
 
--- src/lib.rt:136:9
 returns : tie.Need-returns
 unfolding timeAt
 returns c = stop _ (no (c .before .has .ensures) (c .if1 .taken))
 
--- src/lib.rt:138:9
 clock-requires : tie.Need-clock-requires
 clock-requires c κs = search needs
 
--- src/lib.rt:139:9
 returns-2 : tie.Need-returns-2
 unfolding timeAt
 returns-2 c = go (yes (c .before .before .before .has .ensures) (c .before .before .if1 .left)) (stop _ (no (c .before .clock .ensures) (c .if2 .taken)))
 
--- src/lib.rt:141:9
 has-requires-2 : tie.Need-has-requires-2
 has-requires-2 c κs = search needs
 
--- src/lib.rt:142:9
 returns-3 : tie.Need-returns-3
 unfolding timeAt
 returns-3 c = go (yes (c .before .before .before .before .before .has .ensures) (c .before .before .before .before .if1 .left)) (go (yes (c .before .before .before .clock .ensures) (c .before .before .if2 .left)) (stop _ (no (c .before .has2 .ensures) (c .if3 .taken))))
 
--- src/lib.rt:144:5
 pair-requires : tie.Need-pair-requires
 pair-requires c κs = search needs
 
--- src/lib.rt:132:1
 returns-4 : tie.Need-returns-4
 unfolding timeAt
 returns-4 c = go (yes (c .before .before .before .before .before .before .has .ensures) (c .before .before .before .before .before .if1 .left)) (go (yes (c .before .before .before .before .clock .ensures) (c .before .before .before .if2 .left)) (go (yes (c .before .before .has2 .ensures) (c .before .if3 .left)) (ap (λ (p : ℕ). leb p 59) (c .pair .ensures))))

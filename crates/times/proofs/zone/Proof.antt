@@ -11,51 +11,40 @@ use Rattle.times.proofs.clock.Reads as clock-reads
 use Rattle.times.proofs.has.Reads as has-reads
 use Rattle.times.proofs.sign.Reads as sign-reads
 
--- src/lib.rt:173:9
 returns : tie.Need-returns
 unfolding zoneAt
 returns c = or-yes _ (le-leb _ _ (c .if1 .taken))
 
--- src/lib.rt:175:8
 has-requires : tie.Need-has-requires
 has-requires c κs = search needs
 
--- src/lib.rt:176:27
 add-result : tie.Need-add-result
 add-result c = search needs
 
--- src/lib.rt:176:9
 returns-2 : tie.Need-returns-2
 unfolding zoneAt
 returns-2 c = or-no (lt-leb _ _ (c .before .before .if1 .left)) (cond-yes _ (told (c .before .has .ensures) (c .if2 .taken)) refl)
 
--- src/lib.rt:178:9
 sign-requires : tie.Need-sign-requires
 sign-requires c κs = search needs
 
--- src/lib.rt:179:9
 returns-3 : tie.Need-returns-3
 unfolding zoneAt
 returns-3 c = or-no (lt-leb _ _ (c .before .before .before .before .if1 .left)) (cond-no _ (told (c .before .before .before .has .ensures) (c .before .before .if2 .left)) (stop _ (no (c .before .sign .ensures) (c .if3 .taken))))
 
--- src/lib.rt:181:18
 add-clock : tie.Need-add-clock
 add-clock c = search needs
 
--- src/lib.rt:181:9
 clock-requires : tie.Need-clock-requires
 clock-requires c κs = search needs
 
--- src/lib.rt:182:9
 returns-4 : tie.Need-returns-4
 unfolding zoneAt
 returns-4 c = or-no (lt-leb _ _ (c .before .before .before .before .before .before .if1 .left)) (cond-no _ (told (c .before .before .before .before .before .has .ensures) (c .before .before .before .before .if2 .left)) (go (yes (c .before .before .before .sign .ensures) (c .before .before .if3 .left)) (stop _ (no (c .before .clock .ensures) (c .if4 .taken)))))
 
--- src/lib.rt:184:16
 add-result-2 : tie.Need-add-result-2
 add-result-2 c = search needs
 
--- src/lib.rt:168:1
 returns-5 : tie.Need-returns-5
 unfolding zoneAt
 returns-5 c = or-no (lt-leb _ _ (c .before .before .before .before .before .before .if1 .left)) (cond-no _ (told (c .before .before .before .before .before .has .ensures) (c .before .before .before .before .if2 .left)) (go (yes (c .before .before .before .sign .ensures) (c .before .before .if3 .left)) (go (yes (c .before .clock .ensures) (c .if4 .left)) refl)))

@@ -5,7 +5,7 @@ use mathlib.Core.List.{List}
 use lib.ListN.{getD, set}
 use borrow.Author.Needs.{needs}
 use Rattle.journal.specs.Parts.{Over}
-use Rattle.journal.proofs.Loops.{over-none, over-more, over-part}
+use Rattle.journal.proofs.Loops.{over-none, over-more, over-span}
 use Rattle.journal.proofs.bytes.head_at.Statement.{statement}
 use Rattle.journal.proofs.bytes.head_at.Tie as tie
 
@@ -46,7 +46,7 @@ array-write-head-2 : tie.Need-array-write-head-2 Inv-loop μ-loop
 array-write-head-2 c = search needs
 
 returns : tie.Need-returns Inv-loop μ-loop
-returns c = ap₂ (λ (l : List ℕ) (n : ℕ). set l 0 n) (over-part _ _ _ _ _ _ (omega arith) refl (omega arith) (c .before .before .before .loop .inv .1)) (c .byte-at .ensures)
+returns c = ap₂ (λ (l : List ℕ) (n : ℕ). set l 0 n) (over-span _ _ _ _ _ _ (omega arith) refl (omega arith) (c .before .before .before .loop .inv .1)) (c .byte-at .ensures)
 
 pub head-at-spec : {M : Type 1} → statement M
 head-at-spec =

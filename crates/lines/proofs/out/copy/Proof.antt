@@ -2,8 +2,8 @@ use mathlib.Core.Path.{_≡_, refl}
 use Prim.Native.Nat.{_-_, _≤_}
 use native.Mathlib.Omega.{arith}
 use lib.ListN.{length, take, length-set}
-use Rattle.trace.specs.Parts.{put}
-use Rattle.trace.proofs.Put.{all-put, put-none, put-more}
+use Rattle.little_endian.specs.Bytes.{put}
+use Rattle.little_endian.proofs.Put.{all-put, put-none, put-more}
 use borrow.Author.Needs.{needs}
 use Rattle.lines.proofs.out.copy.Statement.{statement}
 use Rattle.lines.proofs.out.copy.Tie as tie

@@ -1,6 +1,7 @@
 use mathlib.Core.Path.{ap}
 use Rattle.reply.specs.Answers.{showVersion}
 use Rattle.reply.proofs.Out.{refusal, reply-as}
+use Rattle.reply.proofs.Shown.{version-shown}
 use borrow.Author.Needs.{needs}
 use Rattle.reply.proofs.answers.tell_version.Statement.{statement}
 use Rattle.reply.proofs.answers.tell_version.Tie as tie
@@ -16,6 +17,9 @@ tell-value-requires c κs = search needs
 
 enum-known-a-2 : tie.Need-enum-known-a-2
 enum-known-a-2 c = search needs
+
+twos-complement-requires : tie.Need-twos-complement-requires
+twos-complement-requires c κs = search needs
 
 slice-aggregate-tell : tie.Need-slice-aggregate-tell
 slice-aggregate-tell c = search needs
@@ -38,8 +42,7 @@ same-length-2 : tie.Need-same-length-2
 same-length-2 c = search needs
 
 returns-3 : tie.Need-returns-3
-unfolding showVersion
-returns-3 c = reply-as _ _ _ _ _ (ap showVersion (c .before .before .before .before .before .before .a2 .given .1)) (c .before .before .tell .ensures)
+returns-3 c = reply-as _ _ _ _ _ (version-shown _ _ _ (c .before .before .before .before .before .before .before .a2 .given .1) (c .before .before .before .before .before .twos-complement .ensures)) (c .before .before .tell .ensures)
 
 pub tell-version-spec : {M : Type 1} → statement M
 tell-version-spec =
@@ -49,6 +52,7 @@ tell-version-spec =
     enum-told
     tell-value-requires
     enum-known-a-2
+    twos-complement-requires
     slice-aggregate-tell
     tell-requires
     returns

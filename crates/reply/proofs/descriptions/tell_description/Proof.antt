@@ -8,6 +8,9 @@ use Rattle.reply.proofs.descriptions.tell_description.Tie as tie
 returns : tie.Need-returns
 returns c = refusal _ 15 _ (description-refused _ (not-true _ (c .if1 .taken)))
 
+twos-complement-requires : tie.Need-twos-complement-requires
+twos-complement-requires c κs = search needs
+
 presence-of-requires : tie.Need-presence-of-requires
 presence-of-requires c κs = search needs
 
@@ -30,13 +33,14 @@ same-length : tie.Need-same-length
 same-length c = search needs
 
 returns-2 : tie.Need-returns-2
-returns-2 c = reply-as _ _ _ _ _ (description-shown _ _ _ _ _ (not-false _ (c .before .before .before .before .before .before .before .before .before .before .if1 .left)) (c .before .before .before .before .before .before .before .before .presence-of .ensures) (c .before .before .before .before .before .before .before .place-of .ensures) (c .before .before .before .before .before .before .presence-of2 .ensures) (c .before .before .before .before .before .place-of2 .ensures)) (c .before .before .tell .ensures)
+returns-2 c = reply-as _ _ _ _ _ (description-shown _ _ _ _ _ _ (not-false _ (c .before .before .before .before .before .before .before .before .before .before .before .if1 .left)) (c .before .before .before .before .before .before .before .before .before .twos-complement .ensures) (c .before .before .before .before .before .before .before .before .presence-of .ensures) (c .before .before .before .before .before .before .before .place-of .ensures) (c .before .before .before .before .before .before .presence-of2 .ensures) (c .before .before .before .before .before .place-of2 .ensures)) (c .before .before .tell .ensures)
 
 pub tell-description-spec : {M : Type 1} → statement M
 tell-description-spec =
     tie.close
     (tie.spec
     returns
+    twos-complement-requires
     presence-of-requires
     place-of-requires
     presence-of-requires-2

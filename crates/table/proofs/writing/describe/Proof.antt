@@ -30,7 +30,7 @@ same-length : tie.Need-same-length
 same-length c = search needs
 
 returns-2 : tie.Need-returns-2
-returns-2 c = described _ _ _ _ _ _ (c .before .before .before .before .before .before .before .before .before .describe .ensures) (not-false _ (c .before .before .before .before .before .before .before .if1 .left)) (c .before .before .before .before .before .before .description .result) (omega (arith, c .before .before .before .before .before .before .description .ok)) (c .before .before .before .before .before .before .description .ensures) _ _ 8150 (c .before .before .patch .ensures) (omega (arith, c .before .before .before .before .before .before .description .ok))
+returns-2 c = described _ _ _ _ _ _ (c .before .before .before .before .before .before .before .before .before .describe .ensures) (not-false _ (c .before .before .before .before .before .before .before .if1 .left)) (c .before .before .before .before .before .before .description .result) (omega (arith, c .before .before .before .before .before .before .description .ok)) (c .before .before .before .before .before .before .description .ensures) _ _ 7789 (c .before .before .patch .ensures) (omega (arith, c .before .before .before .before .before .before .description .ok))
 
 pub describe-spec : {M : Type 1} → statement M
 describe-spec =

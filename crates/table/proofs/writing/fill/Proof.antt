@@ -20,7 +20,7 @@ same-length : tie.Need-same-length
 same-length c = search needs
 
 returns : tie.Need-returns
-returns c = filled _ _ _ _ _ _ _ _ _ _ (c .before .before .before .before .before .lane-offset .ensures) (omega (arith, c .before .before .before .before .before .before .lane .ok)) (c .before .before .before .before .before .before .lane .ensures) (c .before .before .patch .ensures)
+returns c = filled _ _ _ _ _ _ _ (c .before .before .patch .ensures) _ _ _ (c .before .before .before .before .before .lane-offset .ensures) (omega (arith, c .before .before .before .before .before .before .lane .ok)) (c .before .before .before .before .before .before .lane .ensures)
 
 pub fill-spec : {M : Type 1} → statement M
 fill-spec =

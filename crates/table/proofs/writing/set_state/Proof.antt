@@ -1,4 +1,5 @@
 use native.Mathlib.Omega.{arith}
+use Rattle.table.proofs.Obeying.{stated}
 use borrow.Author.Needs.{needs}
 use Rattle.table.proofs.writing.set_state.Statement.{statement}
 use Rattle.table.proofs.writing.set_state.Tie as tie
@@ -16,7 +17,7 @@ same-length : tie.Need-same-length
 same-length c = search needs
 
 returns : tie.Need-returns
-returns c = λ s h. c .before .before .patch .ensures s h (omega (arith, c .before .before .before .before .before .state .ok)) _ (c .before .before .before .before .before .state .ensures)
+returns c = stated _ _ _ _ _ _ _ (c .before .before .patch .ensures) _ (omega (arith, c .before .before .before .before .before .state .ok)) (c .before .before .before .before .before .state .ensures)
 
 pub set-state-spec : {M : Type 1} → statement M
 set-state-spec =

@@ -1,4 +1,5 @@
 use native.Mathlib.Omega.{arith}
+use Rattle.table.proofs.Obeying.{undescribed}
 use borrow.Author.Needs.{needs}
 use Rattle.table.proofs.writing.undescribe.Statement.{statement}
 use Rattle.table.proofs.writing.undescribe.Tie as tie
@@ -16,7 +17,7 @@ same-length : tie.Need-same-length
 same-length c = search needs
 
 returns : tie.Need-returns
-returns c = λ s h. c .before .before .patch .ensures s h (omega (arith, c .before .before .before .before .before .no-description .ok)) _ (c .before .before .before .before .before .no-description .ensures)
+returns c = undescribed _ _ _ _ _ _ _ (c .before .before .patch .ensures) (omega (arith, c .before .before .before .before .before .no-description .ok)) (c .before .before .before .before .before .no-description .ensures)
 
 pub undescribe-spec : {M : Type 1} → statement M
 undescribe-spec =

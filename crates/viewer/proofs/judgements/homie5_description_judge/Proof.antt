@@ -13,10 +13,10 @@ enum-known-k : tie.Need-enum-known-k
 enum-known-k c = search needs
 
 returns : tie.Need-returns
-returns c = taken _ _ (c .before .before .judge .ensures) (c .enum-told .given .1)
+returns c = taken _ _ _ (c .before .before .judge .ensures) (c .enum-told .given .1)
 
 returns-2 : tie.Need-returns-2
-returns-2 c = not-taken _ _ _ (c .before .before .before .judge .ensures) (c .before .k .given .1)
+returns-2 c = not-taken _ _ _ (c .before .before .before .judge .ensures) _ (c .before .k .given .1)
 
 pub homie5-description-judge-spec : {M : Type 1} → statement M
 homie5-description-judge-spec =
