@@ -1,27 +1,23 @@
 // A device's description: judged, and what it declares.
 use fields::Field;
 use fields::Kind;
-use fields::Members;
 use json::Scan;
 use numbers::integers::IntegerRead;
 use properties::Entries;
 ghost use mathlib.Core.Path.{_≡_};
 ghost use mathlib.Core.Bool.{not, _||_};
-ghost use mathlib.Core.List.{List, _∷_, []};
-ghost use Prim.Native.Nat.{ℕ, _^_};
-ghost use lib.ListN.{length};
-ghost use lib.Dec.{leb, ltb};
+ghost use mathlib.Core.List.{List};
+ghost use Prim.Native.Nat.{ℕ};
+ghost use lib.Dec.{ltb};
 ghost use Rattle.answer.specs.Answer.{require, gives};
 ghost use Rattle.answer.specs.Answer as Answer;
-ghost use Rattle.numbers.specs.Whole.{stands};
 ghost use Rattle.numbers.specs.Integer.{integerRead};
-ghost use Rattle.text.specs.Utf8.{isUtf8};
-ghost use Rattle.json.specs.Value.{documentOf};
+ghost use Rattle.json.specs.Bytes.{ws};
+ghost use Rattle.json.specs.Ends.{Ends};
 ghost use Rattle.fields.specs.Fields.{holds, isPresent};
-ghost use Rattle.fields.specs.Members.{fieldOf};
-ghost use Rattle.description.specs.Names.{homie, version, root, parent};
-ghost use Rattle.description.specs.Description.{allDigits, minorRules, isHomie, homieIn, versionIn, isNumber, isOther, isEnd, rules, numberOf, describe};
-ghost use Rattle.description.specs.Parts.{otherRulesIn, fieldRulesIn, familyRulesIn, deviceRulesIn};
+ghost use Rattle.fields.specs.Known.{fieldAt};
+ghost use Rattle.description.specs.Description.{allDigits, minorRules, isHomie, homieIn, versionIn, isOther, rules, declared, describedIn, describe};
+ghost use Rattle.description.specs.Parts.{otherRulesIn, familyRulesIn, restRules, declaredIn, describedBy, counted, deviceRules, textRules};
 ghost use Rattle.description.specs.Meaning.{meaning, verdict};
 
 // Whether a description is taken, and what it declares: `version` stands for the number less 2^63, root and parent are places in the text.
@@ -83,101 +79,69 @@ fn is_homie(t: &[u8]) -> bool
     is_minor(text::slice(t, 2, t.len()))
 }
 
-fn has_homie(s: &[u8], f: Field) -> bool
-    ensures { λ r. ⌜ r ≡ homieIn (now (s .entry)) f ⌝ }
+fn has_homie(s: &[u8], f: Field, ends: &[u16]) -> bool
+    ensures { λ r. ⌜ (Ends (now (s .entry)) (now (ends .entry)) → r ≡ homieIn (now (s .entry)) f) ⌝ }
 {
     match f {
         Field::Absent => false,
         Field::One(k) => {
-            if !fields::is_text(s, k) {
+            if !fields::is_string(s, k) {
                 return false;
             }
-            is_homie(fields::text_at(s, k))
+            is_homie(fields::string_bytes_by(s, k, ends))
         }
         Field::Twice => false,
     }
 }
 
 // The number that a field holds.
-fn version_in(s: &[u8], f: Field) -> IntegerRead
-    ensures { λ r. ⌜ integerRead r ≡ versionIn (now (s .entry)) f ⌝ }
+fn version_in(s: &[u8], f: Field, ends: &[u16]) -> IntegerRead
+    ensures { λ r. ⌜ (Ends (now (s .entry)) (now (ends .entry)) → integerRead r ≡ versionIn (now (s .entry)) f) ⌝ }
 {
     match f {
         Field::Absent => IntegerRead::Nothing,
-        Field::One(k) => numbers::integers::read_integer(fields::bytes_at(s, k)),
+        Field::One(k) => numbers::integers::read_integer(fields::value_bytes_by(s, k, ends)),
         Field::Twice => IntegerRead::Nothing,
     }
 }
 
-fn has_version(s: &[u8], m: Members) -> bool
-    ensures { λ r. ⌜ r ≡ isNumber (versionIn (now (s .entry)) (fieldOf (now (s .entry)) m version)) ⌝ }
-{
-    match version_in(s, fields::lookup_in(s, m, b"version")) {
-        IntegerRead::Value(_) => true,
-        IntegerRead::Nothing => false,
-    }
-}
-
-fn version_at(s: &[u8], m: Members) -> u64
-    ensures { λ r. ⌜ stands (2 ^ 63) r ≡ numberOf (versionIn (now (s .entry)) (fieldOf (now (s .entry)) m version)) ⌝ }
-{
-    match version_in(s, fields::lookup_in(s, m, b"version")) {
-        IntegerRead::Value(n) => n,
-        IntegerRead::Nothing => 9223372036854775808,
-    }
-}
-
 // Whether the other known fields of the device stand at most once, each of its kind.
-fn has_others(s: &[u8], m: Members) -> bool
-    ensures { λ r. ⌜ r ≡ holds (otherRulesIn (now (s .entry)) m) ⌝ }
+fn has_others(s: &[u8], seen: &[usize; 32], ends: &[u16]) -> bool
+    ensures { λ r. ⌜ (Ends (now (s .entry)) (now (ends .entry)) → r ≡ holds (otherRulesIn (now (s .entry)) (now (seen .entry)))) ⌝ }
 {
-    if !fields::has_optional(s, m, b"nodes", Kind::Object) {
+    if !fields::is_optional(s, fields::field_at(seen, fields::NODES), Kind::Object, ends) {
         return false;
     }
-    if !fields::has_optional(s, m, b"name", Kind::Text) {
+    if !fields::is_optional(s, fields::field_at(seen, fields::NAME), Kind::Text, ends) {
         return false;
     }
-    if !fields::has_optional(s, m, b"type", Kind::Text) {
+    if !fields::is_optional(s, fields::field_at(seen, fields::TYPE), Kind::Text, ends) {
         return false;
     }
-    if !fields::has_optional(s, m, b"children", Kind::Ids) {
+    if !fields::is_optional(s, fields::field_at(seen, fields::CHILDREN), Kind::Ids, ends) {
         return false;
     }
-    if !fields::has_optional(s, m, b"root", Kind::Id) {
+    if !fields::is_optional(s, fields::field_at(seen, fields::ROOT), Kind::Id, ends) {
         return false;
     }
-    if !fields::has_optional(s, m, b"parent", Kind::Id) {
+    if !fields::is_optional(s, fields::field_at(seen, fields::PARENT), Kind::Id, ends) {
         return false;
     }
-    fields::has_optional(s, m, b"extensions", Kind::Texts)
-}
-
-// Whether the device's known fields are there as they must be.
-fn has_fields(s: &[u8], at: usize, m: Members) -> bool
-    ensures { λ r. ⌜ r ≡ holds (fieldRulesIn (now (s .entry)) at m) ⌝ }
-{
-    if !fields::is_object(s, at) {
-        return false;
-    }
-    if !fields::are_plain(s, m) {
-        return false;
-    }
-    if !has_homie(s, fields::lookup_in(s, m, b"homie")) {
-        return false;
-    }
-    if !has_version(s, m) {
-        return false;
-    }
-    has_others(s, m)
+    fields::is_optional(
+        s,
+        fields::field_at(seen, fields::EXTENSIONS),
+        Kind::Texts,
+        ends,
+    )
 }
 
 // Whether a field does not hold the device's own ID.
-fn is_other(own: &[u8], s: &[u8], f: Field) -> bool
-    ensures { λ r. ⌜ r ≡ isOther (now (own .entry)) (now (s .entry)) f ⌝ }
+fn is_other(own: &[u8], s: &[u8], f: Field, ends: &[u16]) -> bool
+    ensures { λ r. ⌜ (Ends (now (s .entry)) (now (ends .entry)) → r ≡ isOther (now (own .entry)) (now (s .entry)) f) ⌝ }
 {
     match f {
         Field::Absent => true,
-        Field::One(k) => !text::same(fields::text_at(s, k), own),
+        Field::One(k) => !text::same(fields::string_bytes_by(s, k, ends), own),
         Field::Twice => true,
     }
 }
@@ -193,55 +157,26 @@ fn is_present(f: Field) -> bool
 }
 
 // Whether there is a root where there is a parent.
-fn has_root(s: &[u8], m: Members) -> bool
-    ensures { λ r. ⌜ r ≡ (not (isPresent (fieldOf (now (s .entry)) m parent)) || isPresent (fieldOf (now (s .entry)) m root)) ⌝ }
+fn has_root(seen: &[usize; 32]) -> bool
+    ensures { λ r. ⌜ r ≡ (not (isPresent (fieldAt (now (seen .entry)) 6)) || isPresent (fieldAt (now (seen .entry)) 3)) ⌝ }
 {
-    if !is_present(fields::lookup_in(s, m, b"parent")) {
+    if !is_present(fields::field_at(seen, fields::PARENT)) {
         return true;
     }
-    is_present(fields::lookup_in(s, m, b"root"))
+    is_present(fields::field_at(seen, fields::ROOT))
 }
 
 // Whether root and parent go together and are other devices.
-fn has_family(own: &[u8], s: &[u8], m: Members) -> bool
-    ensures { λ r. ⌜ r ≡ holds (familyRulesIn (now (own .entry)) (now (s .entry)) m) ⌝ }
+fn has_family(own: &[u8], s: &[u8], seen: &[usize; 32], ends: &[u16]) -> bool
+    ensures { λ r. ⌜ (Ends (now (s .entry)) (now (ends .entry)) → r ≡ holds (familyRulesIn (now (own .entry)) (now (s .entry)) (now (seen .entry)))) ⌝ }
 {
-    if !has_root(s, m) {
+    if !has_root(seen) {
         return false;
     }
-    if !is_other(own, s, fields::lookup_in(s, m, b"root")) {
+    if !is_other(own, s, fields::field_at(seen, fields::ROOT), ends) {
         return false;
     }
-    is_other(own, s, fields::lookup_in(s, m, b"parent"))
-}
-
-// Whether the text is a JSON text, in UTF-8, of at most 8,192 bytes.
-fn is_json(s: &[u8]) -> bool
-    ensures { λ r. ⌜ r ≡ holds (leb (length (now (s .entry))) 8192 ∷ isUtf8 (now (s .entry)) ∷ isEnd (documentOf (now (s .entry))) ∷ []) ⌝ }
-{
-    if s.len() > 8192 {
-        return false;
-    }
-    if !text::is_utf8(s) {
-        return false;
-    }
-    match json::document(s) {
-        Scan::End(_) => true,
-        Scan::Bad(_) => false,
-    }
-}
-
-// Whether the device's object, at `at` with these members, breaks no rule but the number of properties.
-fn is_device(own: &[u8], s: &[u8], at: usize, m: Members) -> bool
-    ensures { λ r. ⌜ r ≡ holds (deviceRulesIn (now (own .entry)) (now (s .entry)) at m) ⌝ }
-{
-    if !has_fields(s, at, m) {
-        return false;
-    }
-    if !has_family(own, s, m) {
-        return false;
-    }
-    nodes::has_nodes(s, fields::lookup_in(s, m, b"nodes"))
+    is_other(own, s, fields::field_at(seen, fields::PARENT), ends)
 }
 
 fn refused() -> Description
@@ -266,29 +201,82 @@ fn is_over(over: bool, n: usize) -> bool
     n > 24
 }
 
-// What the description `s` of the device `own` declares, if it is valid.
-pub fn describe(own: &[u8], s: &[u8]) -> Description
-    ensures { λ r. ⌜ meaning (now (s .entry)) r ≡ describe (now (own .entry)) (now (s .entry)) ⌝ }
+// What a device with these fields declares, its version read, if its other fields and its nodes are valid.
+fn declare(own: &[u8], s: &[u8], version: u64, seen: &[usize; 32], ends: &[u16]) -> Description
+    ensures { λ r. ⌜ (Ends (now (s .entry)) (now (ends .entry)) → meaning (now (s .entry)) r ≡ require (holds (counted (restRules (now (own .entry)) (now (s .entry)) (now (seen .entry))) (declaredIn (now (s .entry)) (now (seen .entry))))) 15 (gives (describedBy (now (s .entry)) version (now (seen .entry))))) ⌝ }
 {
-    let at = json::skip(s, 0);
-    if !is_json(s) {
+    if !has_others(s, seen, ends) {
         return refused();
     }
-    let m = fields::members_of(s, at);
-    if !is_device(own, s, at, m) {
+    if !has_family(own, s, seen, ends) {
         return refused();
     }
-    let l = nodes::properties_in(s, fields::lookup_in(s, m, b"nodes"));
+    let a = nodes::nodes_in(s, fields::field_at(seen, fields::NODES), ends);
+    let valid = a.valid;
+    let l = a.list;
+    if !valid {
+        return refused();
+    }
     if is_over(l.over, l.n) {
         return refused();
     }
     Description {
         taken: true,
-        version: version_at(s, m),
-        root: fields::lookup_in(s, m, b"root"),
-        parent: fields::lookup_in(s, m, b"parent"),
+        version: version,
+        root: fields::field_at(seen, fields::ROOT),
+        parent: fields::field_at(seen, fields::PARENT),
         properties: l,
     }
+}
+
+// What the device whose object is at `at` declares, if it is valid.
+fn device_at(own: &[u8], s: &[u8], at: usize, ends: &[u16]) -> Description
+    ensures { λ r. ⌜ (Ends (now (s .entry)) (now (ends .entry)) → meaning (now (s .entry)) r ≡ require (holds (counted (deviceRules (now (own .entry)) (now (s .entry)) at) (declared (now (s .entry)) at))) 15 (gives (describedIn (now (s .entry)) at))) ⌝ }
+{
+    if !fields::is_object(s, at) {
+        return refused();
+    }
+    let m = fields::known_fields(s, at, ends);
+    let plain = m.plain;
+    let seen = m.seen;
+    if !plain {
+        return refused();
+    }
+    if !has_homie(s, fields::field_at(&seen, fields::HOMIE), ends) {
+        return refused();
+    }
+    match version_in(s, fields::field_at(&seen, fields::VERSION), ends) {
+        IntegerRead::Nothing => refused(),
+        IntegerRead::Value(v) => declare(own, s, v, &seen, ends),
+    }
+}
+
+// What a text of a length, in UTF-8, declares, if it is valid. The table is lent.
+fn describe_by(own: &[u8], s: &[u8], ends: &mut [u16]) -> Description
+    ensures { λ r. ⌜ meaning (now (s .entry)) r ≡ require (holds (textRules (now (own .entry)) (now (s .entry)))) 15 (gives (describedIn (now (s .entry)) (ws (now (s .entry)) 0))) ⌝ }
+{
+    match json::mark(s, ends) {
+        Scan::Bad(_) => refused(),
+        Scan::End(_) => device_at(own, s, json::skip(s, 0), ends),
+    }
+}
+
+// What the description `s` of the device `own` declares, if it is valid.
+pub fn describe(own: &[u8], s: &[u8]) -> Description
+    ensures { λ r. ⌜ meaning (now (s .entry)) r ≡ describe (now (own .entry)) (now (s .entry)) ⌝ }
+{
+    if s.len() > 8192 {
+        return refused();
+    }
+    if !text::is_utf8(s) {
+        return refused();
+    }
+    if s.len() > 2048 {
+        let mut ends = [1u16; 8192];
+        return describe_by(own, s, &mut ends);
+    }
+    let mut ends = [1u16; 2048];
+    describe_by(own, s, &mut ends)
 }
 
 // Whether `s` is a valid description of the device `own`.

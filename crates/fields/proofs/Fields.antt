@@ -3,7 +3,8 @@ use Prim.Native.Nat.{ℕ, zero, suc, _+_, _-_, _≤_, _<_}
 use native.Mathlib.Omega.{arith}
 use mathlib.Core.Path.{_≡_, refl, sym, ap, _∙_, subst}
 use mathlib.Core.List.{List, [], _∷_}
-use mathlib.Core.Bool.{Bool, true, false}
+use mathlib.Core.Bool.{Bool, true, false, true≢false}
+use borrow.Author.Tests.{le-leb, lt-leb}
 use lib.ListN.{length}
 use Rattle.json.specs.Bytes.{byte, ws}
 use Rattle.json.specs.Members.{Member, memberAt, GotItem}
@@ -17,7 +18,13 @@ use Rattle.fields.specs.declared.Field.{Field}
 use Rattle.fields.specs.declared.Field.the-variants.{Absent, One, Twice}
 use Rattle.fields.specs.Values.{stringBytes, isTrue, members, nameOf, all, isPlain, ofKind}
 use Rattle.fields.specs.Fields.{oneMore, pairs, fieldIn, field, optional, flagIn, plainIn, plainNames}
-use Rattle.fields.proofs.Walk.{Walking, walking-as, at-done, at-item, no-members, first-member}
+use Rattle.fields.specs.Known.{knownName, fieldAt, Knows}
+use Rattle.fields.specs.Parts.{Classified, seenMore, Saw}
+use Rattle.fields.specs.declared.Known.{Known}
+use Rattle.fields.proofs.Numbers.{at-none}
+use lib.Dec.{eqb, leb}
+use lib.ListN.{getD}
+use Rattle.fields.proofs.Walk.{Walking, walking-as, at-done, at-item, no-members, first-member, all-done, all-no, all-yes}
 
 module _ (seen : Field) (k : ℕ) where
   pub more-first : seen ≡ Absent → One k ≡ oneMore seen k
@@ -62,6 +69,13 @@ module _ (s name : List ℕ) (seen : Field) (i : ℕ) {want : Field} (g : Lookin
     pub look-miss : b ≡ false → Looking s name seen n want
     unfolding pairs fieldIn
     look-miss q = walking-as (λ ms. fieldIn name seen (pairs s ms)) (λ ms. sym (rw (sym hit ∙ q, fieldIn))) (at-item (memberAt s) (λ ms. fieldIn name seen (pairs s ms)) (length s) i g w)
+
+    -- by the test
+    pub look-on : {seen′ : Field} → seen′ ≡ seenMore b seen k → Looking s name seen′ n want
+    unfolding seenMore
+    look-on {seen′} z = both b
+        (λ q. look-hit q (z ∙ rw q))
+        (λ q. subst (λ (f : Field). Looking s name f n want) (sym (z ∙ rw q)) (look-miss q))
 
 -- by the field's case
 module _ (kind : Kind) (s : List ℕ) {f : Field} where
@@ -116,3 +130,49 @@ module _ (s : List ℕ) (at : ℕ) {b : ℕ} (p : b ≡ byte s at) where
 pub name-plain : (s : List ℕ) (i k e : ℕ) {t : List ℕ} {b : Bool} → t ≡ stringBytes s i → b ≡ isPlain t → b ≡ isPlain (nameOf s (record { name = i; value = k; end = e }))
 unfolding nameOf
 name-plain s i k e x y = y ∙ ap isPlain x
+
+-- ---- all known fields of an object
+
+-- what was seen of each, and whether the names are plain, in the walk's turn at i
+pub record Noting (s : List ℕ) (at : ℕ) (seen : List ℕ) (i : ℕ) : Type 0 where
+  pub names : Naming s i (plainNames s at)
+  pub looks : (c : ℕ) → c < 15 → Looking s (knownName c) (fieldAt seen c) i (field s at (knownName c))
+
+module _ (s : List ℕ) (at : ℕ) {b : ℕ} (p : b ≡ byte s at) (seen : List ℕ) (z : (c : ℕ) → Absent ≡ fieldAt seen c) where
+  pub note-none : (b ≡ 123 → ⊥) → (m : Known) → m .plain ≡ true → m .seen ≡ seen → Knows s at m
+  note-none n m e f = record {
+    plain = e ∙ names-none s at p n;
+    fields = λ t c h. ap (λ (l : List ℕ). fieldAt l c) f ∙ sym (z c) ∙ look-none s at (knownName c) p n;
+  }
+
+  pub note-first : {i : ℕ} → b ≡ 123 → i ≡ ws s (at + 1) → i ≤ length s → Noting s at seen i
+  note-first {i} e q h = record {
+    names = names-first s at p e q h;
+    looks = λ c l. subst (λ (f : Field). Looking s (knownName c) f i (field s at (knownName c))) (z c) (look-first s at (knownName c) p e q h);
+  }
+
+module _ (s : List ℕ) (at : ℕ) (seen : List ℕ) (i : ℕ) (g : Noting s at seen i) where
+  pub note-done : memberAt s i ≡ Done → (m : Known) → m .plain ≡ true → m .seen ≡ seen → Knows s at m
+  note-done q m e f = record {
+    plain = e ∙ all-done _ _ _ _ (g .names) q;
+    fields = λ t c h. ap (λ (l : List ℕ). fieldAt l c) f ∙ look-done s (knownName c) (fieldAt seen c) i (g .looks c h) q;
+  }
+
+  module _ {k e n : ℕ} (w : GotItem (memberAt s i) i (length s) (At k e n)) {t : List ℕ} (x : t ≡ stringBytes s i) {c : ℕ} (y : Classified t c) where
+    pub note-escaped : 15 < c → (m : Known) → m .plain ≡ false → Knows s at m
+    note-escaped h m q = record {
+      plain = q ∙ all-no _ _ _ _ (g .names) w (name-plain s i k e x (y .plain)) (lt-leb c 15 h);
+      fields = λ p. absurd (true≢false (sym p ∙ q));
+    }
+
+    pub note-more : {seen′ : List ℕ} → c ≤ 15 → 0 < i → Saw c i k seen seen′ → Noting s at seen′ n
+    note-more {seen′} h o v = record {
+      names = all-yes _ _ _ _ (g .names) w (name-plain s i k e x (y .plain)) (le-leb c 15 h);
+      looks = λ j l. look-on s (knownName j) (fieldAt seen j) i (g .looks j l) w x (sym (y .names j l)) (v .more o (let z = w .lies in omega arith) j (omega arith));
+    }
+
+-- the turn of the walk at i; what holds of it if the table is right
+pub record Turn (given : Type 0) (seen : List ℕ) (i : ℕ) (X : Type 0) : Type 0 where
+  pub from : 0 < i
+  pub long : length seen ≡ 32
+  pub going : given → X

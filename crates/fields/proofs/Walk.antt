@@ -8,7 +8,10 @@ use lib.ListN.{length}
 use lib.Dec.{eqb}
 use borrow.Author.Tests.{ne-eqb, eq-eqb}
 use Rattle.json.specs.Bytes.{byte, ws}
-use Rattle.json.specs.Members.{Member, memberAt, elementAt, listFrom, GotItem}
+use Rattle.json.specs.Members.{Member, memberAt, elementAt, listFrom, ItemLies, GotItem}
+use Rattle.json.specs.Bytes.{EndsWithin}
+use Rattle.json.specs.Ends.{ScannedIf, GotItemIf}
+use Rattle.json.specs.declared.Scan.{Scan}
 use Rattle.json.proofs.Members.{Going, walk, walked, walk-members, walk-elements}
 use Rattle.json.specs.declared.Item.{Item}
 use Rattle.json.specs.declared.Item.the-variants.{At, Done}
@@ -32,9 +35,21 @@ pub walking-as : {X : Type 0} {step : ℕ → Item} {f : List Member → X} {len
 walking-as {X} {step} {f} {len} {i} g e w =
     record { within = w .within; going = record { fuel = w .going .fuel; enough = w .going .enough; same = e (listFrom step (w .going .fuel) i) ∙ w .going .same } }
 
+-- ---- by a table of ends: where the answer lies, whatever the table holds; and what it is, if the table is right
+
+module _ {given : Type 0} {want : Item} {i n : ℕ} {r : Item} (q : Item) (w : GotItemIf given want i n r) (e : r ≡ q) where
+  pub item-lies : ItemLies i n q
+  item-lies = subst (ItemLies i n) e (w .lies)
+
+  pub item-is : given → GotItem want i n q
+  item-is h = record { is = sym e ∙ w .is h; lies = item-lies }
+
+pub scan-lies : {given : Type 0} {want : Scan} {lo hi : ℕ} {r : Scan} (q : Scan) → ScannedIf given want lo hi r → r ≡ q → EndsWithin lo hi q
+scan-lies {given} {want} {lo} {hi} q w e = subst (EndsWithin lo hi) e (w .lies)
+
 -- falls with each turn
-pub falls : {len i k e n : ℕ} {want : Item} → GotItem want i len (At k e n) → len - n < len - i
-falls w = let l = w .lies in omega arith
+pub falls : {given : Type 0} {want : Item} {i len k e n : ℕ} {r : Item} → GotItemIf given want i len r → r ≡ At k e n → len - n < len - i
+falls {k = k} {e = e} {n = n} w q = let l = item-lies (At k e n) w q in omega arith
 
 module _ {X : Type 0} (f : List Member → X) (s : List ℕ) (at : ℕ) {b : ℕ} (p : b ≡ byte s at) where
   pub no-members : (b ≡ 123 → ⊥) → f [] ≡ f (members s at)

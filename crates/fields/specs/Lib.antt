@@ -1,5 +1,5 @@
 pub mod Values
 pub mod Fields
-pub mod Members
+pub mod Known
 pub mod Names
 pub mod Parts

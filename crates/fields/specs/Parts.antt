@@ -1,20 +1,73 @@
 -- What the contracts of private functions cite.
-use Prim.Native.Nat.{ℕ}
+use Prim.Native.Nat.{ℕ, _+_, _≤_, _<_}
 use mathlib.Core.Path.{_≡_}
-use mathlib.Core.List.{List}
-use mathlib.Core.Bool.{Bool, true, false}
-use Rattle.fields.specs.declared.MemberAt.{MemberAt}
-use Rattle.fields.specs.declared.Members.{Members}
-use Rattle.fields.specs.Values.{isStringAt, isIdText}
+use mathlib.Core.List.{List, [], _∷_}
+use mathlib.Core.Bool.{Bool, true, false, cond}
+use lib.ListN.{length}
+use lib.Dec.{eqb, leb}
+use Rattle.text.specs.Ascii.{ascii}
+use Rattle.text.specs.Bytes.{eqBytes}
+use Rattle.fields.specs.declared.Field.{Field}
+use Rattle.fields.specs.Values.{isStringAt, isIdText, isPlain}
+use Rattle.fields.specs.Fields.{oneMore}
+use Rattle.fields.specs.Known.{knownName, fieldAt}
 
 -- an array's element: an ID, or a string
 unfoldable pub itemTest : Bool → List ℕ → ℕ → Bool
 itemTest true s k = isIdText s k
 itemTest false s k = isStringAt s k
 
--- a table of these
-pub record Holds (at : ℕ) (over : Bool) (n : ℕ) (items : List MemberAt) (m : Members) : Type 0 where
-  pub place : m .at ≡ at
-  pub many : m .over ≡ over
-  pub count : m .n ≡ n
-  pub members : m .items ≡ items
+-- ---- the number of a name
+
+pub record Numbered : Type 0 where
+  pub name : List ℕ
+  pub number : ℕ
+
+unfoldable pub search : List Numbered → List ℕ → ℕ
+search [] t = 15
+search (x ∷ xs) t = elim (eqBytes t (x .name)) [ true ↦ x .number | false ↦ search xs t ]
+
+abbrev pub numbered : List ℕ → ℕ → Numbered
+numbered t c = record { name = t; number = c }
+
+-- the known names of a length
+unfoldable pub names4 : List Numbered
+names4 = numbered (ascii "name") 0 ∷ numbered (ascii "type") 1 ∷ numbered (ascii "unit") 2 ∷ numbered (ascii "root") 3 ∷ []
+
+unfoldable pub names5 : List Numbered
+names5 = numbered (ascii "homie") 4 ∷ numbered (ascii "nodes") 5 ∷ []
+
+unfoldable pub names6 : List Numbered
+names6 = numbered (ascii "parent") 6 ∷ numbered (ascii "format") 7 ∷ []
+
+unfoldable pub names7 : List Numbered
+names7 = numbered (ascii "version") 8 ∷ []
+
+unfoldable pub names8 : List Numbered
+names8 = numbered (ascii "datatype") 9 ∷ numbered (ascii "settable") 10 ∷ numbered (ascii "retained") 11 ∷ numbered (ascii "children") 12 ∷ []
+
+unfoldable pub names10 : List Numbered
+names10 = numbered (ascii "properties") 13 ∷ numbered (ascii "extensions") 14 ∷ []
+
+unfoldable pub namesOf : ℕ → List Numbered
+namesOf n = cond (eqb n 4) names4 (cond (eqb n 5) names5 (cond (eqb n 6) names6 (cond (eqb n 7) names7 (cond (eqb n 8) names8 (cond (eqb n 10) names10 [])))))
+
+-- 15 where the name is not known
+unfoldable pub numberOf : List ℕ → ℕ
+numberOf t = search (namesOf (length t)) t
+
+-- a name's number is c: a known one's, 15 for another with no backslash, 16 for one with
+pub record Classified (t : List ℕ) (c : ℕ) : Type 0 where
+  pub plain : leb c 15 ≡ isPlain t
+  pub names : (j : ℕ) → j < 15 → eqBytes t (knownName j) ≡ eqb j c
+
+-- ---- one member more
+
+unfoldable pub seenMore : Bool → Field → ℕ → Field
+seenMore true f k = oneMore f k
+seenMore false f k = f
+
+-- of the name number c, at the place i, with its value at k
+pub record Saw (c i k : ℕ) (before after : List ℕ) : Type 0 where
+  pub long : length after ≡ length before
+  pub more : 0 < i → 0 < k → (j : ℕ) → j < 16 → fieldAt after j ≡ seenMore (eqb j c) (fieldAt before j) k

@@ -67,7 +67,7 @@ fn text_in(s: &[u8], f: Field) -> &[u8]
 {
     match f {
         Field::Absent => &s[..0],
-        Field::One(k) => fields::text_at(s, k),
+        Field::One(k) => fields::string_bytes(s, k),
         Field::Twice => &s[..0],
     }
 }
@@ -110,8 +110,8 @@ fn put_record(room: &mut [u8], at: usize, s: &[u8], e: Entry)
     let d = e.datatype;
     let f = e.format;
     let kept = e.kept;
-    put_text(room, at + NODE, fields::text_at(s, e.node), ID_MOST);
-    put_text(room, at + PROPERTY, fields::text_at(s, e.id), ID_MOST);
+    put_text(room, at + NODE, fields::string_bytes(s, e.node), ID_MOST);
+    put_text(room, at + PROPERTY, fields::string_bytes(s, e.id), ID_MOST);
     put_traits(room, at, payload::datatype_code(d), e.settable, e.retained);
     put_format(room, at + FORMAT, text_in(s, f), kept);
 }

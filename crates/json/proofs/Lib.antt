@@ -5,3 +5,5 @@ pub mod Numbers
 pub mod Values
 pub mod Items
 pub mod Members
+pub mod Raise
+pub mod Ends

@@ -2,17 +2,12 @@
 use Prim.Native.Nat.{ℕ, zero, suc, _+_, _-_, _≤_, _<_}
 use native.Mathlib.Nat.{add-zero}
 use native.Mathlib.Omega.{arith}
-use mathlib.Core.Path.{_≡_, sym, ap, _∙_, subst}
+use mathlib.Core.Path.{_≡_, sym, ap, _∙_}
 use mathlib.Core.List.{List, [], _∷_}
-use mathlib.Core.Bool.{false}
 use lib.ListN.{length}
-use lib.Dec.{eqb}
 use borrow.Author.Tests.{ne-eqb, eq-eqb}
-use Rattle.json.specs.Bytes.{byte, ws, word, Skipped, Scanned, Moved}
-use Rattle.json.specs.Strings.{stringAt}
-use Rattle.json.specs.Value.{keyAt, valueAt}
-use Rattle.json.specs.Members.{Member, nextAt, itemAt, memberAt, elementAt, listFrom, membersAt, elementsAt, namedAt, ItemLies, GotItem}
-use Rattle.json.specs.declared.Scan.the-variants.{End, Bad}
+use Rattle.json.specs.Bytes.{byte, ws, Skipped}
+use Rattle.json.specs.Members.{Member, nextAt, memberAt, elementAt, listFrom, membersAt, elementsAt}
 use Rattle.json.specs.declared.Item.{Item}
 use Rattle.json.specs.declared.Item.the-variants.{At, Done}
 use Rattle.json.proofs.Bytes.{inside=}
@@ -39,57 +34,6 @@ module _ (s : List ℕ) (e j : ℕ) (p : Skipped (ws s e) e (length s) j) {b : �
   pub next-none : (b ≡ 44 → ⊥) → Skipped (nextAt s e) e (length s) j
   unfolding nextAt
   next-none f = record { is = p .is ∙ sym (rw (ne-eqb (byte s (ws s e)) 44 (λ q. f (x ∙ ap (byte s) (p .is) ∙ q)), nextAt)); from = p .from; to = p .to }
-
-module _ (s : List ℕ) (i : ℕ) where
-  pub item-none : {e : ℕ} → Scanned (valueAt 16 s i) i (length s) (Bad e) → GotItem (itemAt s i) i (length s) Done
-  unfolding itemAt
-  item-none w = record { is = rw (sym (w .is), itemAt); lies = tt }
-
-  pub item-some : {e n : ℕ} → Scanned (valueAt 16 s i) i (length s) (End e) → Skipped (nextAt s e) e (length s) n → GotItem (itemAt s i) i (length s) (At i e n)
-  unfolding itemAt
-  item-some {e} w p =
-      let l = w .lies in
-      let a = p .from in
-      let b = p .to in
-      record { is = rw (sym (w .is), itemAt) (ap (At i e) (p .is)); lies = (omega arith, omega arith, omega arith, omega arith) }
-
-  -- an array's
-  pub element : {r : Item} → GotItem (itemAt s i) i (length s) r → GotItem (elementAt s i) i (length s) r
-  unfolding elementAt
-  element w = w
-
-  -- an object's
-  pub no-key : {e : ℕ} → Scanned (keyAt s i) i (length s) (Bad e) → GotItem (memberAt s i) i (length s) Done
-  unfolding memberAt
-  no-key w = record { is = rw (sym (w .is), memberAt); lies = tt }
-
-  pub member : {k : ℕ} (r : Item) → Scanned (keyAt s i) i (length s) (End k) → GotItem (itemAt s k) k (length s) r → GotItem (memberAt s i) i (length s) r
-  unfolding memberAt
-  member {k} r w g = record { is = g .is ∙ sym (rw (sym (w .is), memberAt)); lies = go r (g .lies) }
-    where
-      go : (q : Item) → ItemLies k (length s) q → ItemLies i (length s) q
-      go (At a e n) l = let m = w .lies in (omega arith, l .1, l .2, l .3)
-      go Done l = tt
-
--- of the variant that a match found
-pub gets : {want : Item} {i n : ℕ} {r : Item} (q : Item) → GotItem want i n r → r ≡ q → GotItem want i n q
-gets {want} {i} {n} q w e = subst (GotItem want i n) e w
-
--- ---- names
-
-module _ (name s : List ℕ) (at : ℕ) where
-  pub named-no : {e : ℕ} → Scanned (stringAt s at) at (length s) (Bad e) → false ≡ namedAt name s at
-  unfolding namedAt
-  named-no w = rw (sym (w .is), namedAt)
-
-  module _ (e : ℕ) (w : Scanned (stringAt s at) at (length s) (End e)) where
-    pub named-other : {j : ℕ} → Moved (word name s (at + 1)) (at + 1) (length s) (Bad j) → false ≡ namedAt name s at
-    unfolding namedAt
-    named-other m = rw (sym (w .is), namedAt) (rw (sym (m .is)))
-
-    pub named-end : {j : ℕ} → Moved (word name s (at + 1)) (at + 1) (length s) (End j) → eqb (j + 1) e ≡ namedAt name s at
-    unfolding namedAt
-    named-end m = rw (sym (w .is), namedAt) (rw (sym (m .is)))
 
 -- ---- walks. f of all the items is f of those from i on, with what f has kept of those before; n is the text's length
 pub record Going {X : Type 0} (step : ℕ → Item) (f : List Member → X) (n i : ℕ) (want : X) : Type 0 where

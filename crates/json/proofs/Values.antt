@@ -6,18 +6,20 @@ use native.Mathlib.Omega.{arith}
 use mathlib.Core.Path.{_≡_, refl, sym, ap, _∙_}
 use mathlib.Core.List.{List, [], _∷_}
 use mathlib.Core.Logic.{_⊎_, inl, inr}
-use mathlib.Core.Bool.{true, false}
+use mathlib.Core.Bool.{Bool, true, false, true≢false}
 use lib.ListN.{length, getD, drop, drop-of-length-le}
 use lib.Dec.{eqb}
 use lib.Seq.{drop-cons}
-use borrow.Author.Tests.{ne-eqb, eq-eqb}
+use borrow.Author.Tests.{ne-eqb, eq-eqb, eqb-true}
 use Rattle.json.specs.Bytes.{byte, ws, word, andThen, Skipped, EndsWithin, Scanned, Between, Moved}
 use Rattle.json.specs.Strings.{stringAt}
 use Rattle.json.specs.Number.{numberAt}
 use Rattle.json.specs.Value.{bracket, brace, other, kindOf, after, series, listOf, colon, keyAt, memberOf, valueOf, valueAt, arrayAt, objectAt, atEnd, documentOf, opens, isContainer}
+use Rattle.json.specs.Parts.{Bare}
 use Rattle.json.specs.declared.Scan.{Scan}
 use Rattle.json.specs.declared.Scan.the-variants.{End, Bad}
 use Rattle.json.proofs.Bytes.{both, inside=}
+use Rattle.json.proofs.Scans.{carry}
 
 -- ---- words
 
@@ -139,6 +141,13 @@ module _ (item : ℕ → Scan) (close : ℕ) (s : List ℕ) where
 
 -- ---- members
 
+-- a string begins with a quote
+pub string-quote : (s : List ℕ) (at e : ℕ) → stringAt s at ≡ End e → byte s at ≡ 34
+unfolding stringAt
+string-quote s at e q = both (eqb (byte s at) 34)
+    (λ b. eqb-true _ _ b)
+    (λ b. let f : stringAt s at ≡ Bad at = rw (b, stringAt) in let z : _≡_ {A = ℕ} 0 1 = cc in absurd (omega arith))
+
 module _ (s : List ℕ) where
   key-then : (at e : ℕ) → stringAt s at ≡ End e → keyAt s at ≡ colon s (ws s e)
   unfolding keyAt andThen
@@ -156,25 +165,26 @@ module _ (s : List ℕ) where
   unfolding keyAt andThen
   key-bad w = record { is = rw (sym (w .is)); lies = w .lies }
 
-  module _ {at e j : ℕ} (w : Scanned (stringAt s at) at (length s) (End e)) (p : Skipped (ws s e) e (length s) j) {b : ℕ} (q : b ≡ byte s j) where
-    pub key-inside : b ≡ 58 → j < length s
-    key-inside c = inside= s j 58 (sym q ∙ c) (omega arith)
+  pub key-goes : {at e : ℕ} {r : Scan} → Scanned (stringAt s at) at (length s) (End e) → Scanned (colon s (ws s e)) e (length s) r → Scanned (keyAt s at) at (length s) r
+  key-goes {at} {e} w c = let l = w .lies in carry (sym (key-then at e (sym (w .is)))) (omega arith) (omega arith) c
 
-    pub key-colon : {k : ℕ} → b ≡ 58 → Skipped (ws s (j + 1)) (j + 1) (length s) k → Scanned (keyAt s at) at (length s) (End k)
-    key-colon {k} c x =
-        let h = key-inside c in
-        let l = w .lies in
+  module _ {e j : ℕ} (p : Skipped (ws s e) e (length s) j) {b : ℕ} (q : b ≡ byte s j) where
+    pub colon-inside : b ≡ 58 → j < length s
+    colon-inside c = inside= s j 58 (sym q ∙ c) (omega arith)
+
+    pub colon-there : {k : ℕ} → b ≡ 58 → Skipped (ws s (j + 1)) (j + 1) (length s) k → Scanned (colon s (ws s e)) e (length s) (End k)
+    colon-there {k} c x =
+        let h = colon-inside c in
         let m = p .from in
         let n = x .from in
         let o = x .to in
-        record { is = sym (key-then at e (sym (w .is)) ∙ ap (colon s) (sym (p .is)) ∙ colon-yes j (sym q ∙ c) ∙ ap End (sym (x .is))); lies = (omega arith, omega arith) }
+        record { is = sym (ap (colon s) (sym (p .is)) ∙ colon-yes j (sym q ∙ c) ∙ ap End (sym (x .is))); lies = (omega arith, omega arith) }
 
-    pub key-none : (b ≡ 58 → ⊥) → Scanned (keyAt s at) at (length s) (Bad j)
-    key-none f =
-        let l = w .lies in
+    pub colon-missing : (b ≡ 58 → ⊥) → Scanned (colon s (ws s e)) e (length s) (Bad j)
+    colon-missing f =
         let m = p .from in
         let n = p .to in
-        record { is = sym (key-then at e (sym (w .is)) ∙ ap (colon s) (sym (p .is)) ∙ colon-no j (λ c. f (q ∙ c))); lies = (omega arith, omega arith) }
+        record { is = sym (ap (colon s) (sym (p .is)) ∙ colon-no j (λ c. f (q ∙ c))); lies = (omega arith, omega arith) }
 
   pub member-bad : (v : ℕ → Scan) (i k : ℕ) → keyAt s i ≡ Bad k → memberOf v s i ≡ Bad k
   unfolding memberOf andThen
@@ -241,6 +251,22 @@ module _ (d : ℕ) (s : List ℕ) (at : ℕ) where
   unfolding valueOf
   value-other k = value-flat d s at (λ a o. rw k)
 
+pub opens-other : (b : ℕ) → (b ≡ 91 → ⊥) → eqb b 123 ≡ opens b
+unfolding opens
+opens-other b f = rw (ne-eqb b 91 f)
+
+pub opens-bracket : (b : ℕ) → b ≡ 91 → true ≡ opens b
+unfolding opens
+opens-bracket b q = rw q
+
+-- what begins no string, array or object
+pub bare : {b c : ℕ} → b ≡ c → (b ≡ 91 → ⊥) → (b ≡ 123 → ⊥) → (b ≡ 34 → ⊥) → Bare c
+bare p f g h = record { no-array = λ q. f (p ∙ q); no-object = λ q. g (p ∙ q); no-string = λ q. h (p ∙ q) }
+
+pub bare-opens : {b c : ℕ} {r : Bool} → b ≡ c → r ≡ opens b → r ≡ false → (b ≡ 34 → ⊥) → Bare c
+unfolding opens
+bare-opens p o e h = bare p (λ q. true≢false (sym (o ∙ rw q) ∙ e)) (λ q. true≢false (sym (o ∙ rw q) ∙ e)) h
+
 module _ (s : List ℕ) (i : ℕ) (p : i ≡ ws s 0) where
   pub document-bad : (e : ℕ) → valueAt 16 s i ≡ Bad e → Bad e ≡ documentOf s
   unfolding documentOf andThen
@@ -259,14 +285,6 @@ module _ (s : List ℕ) (i : ℕ) (p : i ≡ ws s 0) where
   document-more e j q x y = rw (← document-rest e j q x) (rw (ne-eqb j (length s) y, atEnd))
 
 -- ---- containers
-
-pub opens-other : (b : ℕ) → (b ≡ 91 → ⊥) → eqb b 123 ≡ opens b
-unfolding opens
-opens-other b f = rw (ne-eqb b 91 f)
-
-pub opens-bracket : (b : ℕ) → b ≡ 91 → true ≡ opens b
-unfolding opens
-opens-bracket b q = rw q
 
 pub container-bad : (s : List ℕ) (e : ℕ) → documentOf s ≡ Bad e → false ≡ isContainer s
 unfolding isContainer

@@ -4,3 +4,5 @@ pub mod Number
 pub mod Value
 pub mod Members
 pub mod Examples
+pub mod Ends
+pub mod Parts

@@ -3,11 +3,10 @@
 use Prim.Native.Nat.{ℕ, zero, suc, _+_, _≤_, _<_}
 use mathlib.Core.Path.{_≡_}
 use mathlib.Core.List.{List, [], _∷_}
-use mathlib.Core.Bool.{Bool, true, false}
+use mathlib.Core.Bool.{true, false}
 use lib.ListN.{length}
 use lib.Dec.{eqb}
-use Rattle.json.specs.Bytes.{byte, ws, word}
-use Rattle.json.specs.Strings.{stringAt}
+use Rattle.json.specs.Bytes.{byte, ws}
 use Rattle.json.specs.Value.{keyAt, valueAt}
 use Rattle.json.specs.declared.Scan.the-variants.{End, Bad}
 use Rattle.json.specs.declared.Item.{Item}
@@ -48,15 +47,7 @@ membersAt s at = listFrom (memberAt s) (suc (length s)) (ws s (at + 1))
 unfoldable pub elementsAt : List ℕ → ℕ → List Member
 elementsAt s at = listFrom (elementAt s) (suc (length s)) (ws s (at + 1))
 
--- the string at `at` is just these bytes between its quotes
-unfoldable pub namedAt : List ℕ → List ℕ → ℕ → Bool
-namedAt name s at = elim (stringAt s at) [
-  | End e ↦ elim (word name s (at + 1)) [ End j ↦ eqb (j + 1) e | Bad j ↦ false ]
-  | Bad e ↦ false
-]
-
--- ---- what the functions ensure
-
+-- where an item from i on lies, in a text of length n
 abbrev pub ItemLies : ℕ → ℕ → Item → Type 0
 ItemLies i n (At k e j) = (i ≤ k) × (k < e) × (e ≤ j) × (j ≤ n)
 ItemLies i n Done = Unit {0}

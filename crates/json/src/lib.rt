@@ -9,8 +9,11 @@ ghost use Prim.Native.Nat.{_<_};
 ghost use lib.ListN.{length};
 ghost use Rattle.abnf.specs.Accepts.{inRange};
 ghost use Rattle.json.specs.Bytes.{byte, isWs, ws, word, Skipped, Scanned, Moved};
-ghost use Rattle.json.specs.Value.{keyAt, memberOf, valueAt, arrayAt, objectAt, documentOf, opens, isContainer};
-ghost use Rattle.json.specs.Members.{nextAt, memberAt, elementAt, GotItem, namedAt};
+ghost use Rattle.json.specs.Strings.{stringAt};
+ghost use Rattle.json.specs.Value.{colon, keyAt, memberOf, valueAt, arrayAt, objectAt, documentOf, opens, isContainer};
+ghost use Rattle.json.specs.Ends.{Ends, ScannedIf, GotItemIf, Marked};
+ghost use Rattle.json.specs.Parts.{Bare, Leaf, Kept, Noted, Least, Cleared, Told};
+ghost use Rattle.json.specs.Members.{nextAt, memberAt, elementAt};
 
 // What a scan finds: where it ends, or the first place at which nothing that stands there can be right.
 pub enum Scan {
@@ -80,44 +83,68 @@ fn literal(s: &[u8], at: usize, w: &[u8]) -> Scan
     Scan::End(at + i)
 }
 
-// A member's name, its colon and the white space about it: the index of the member's value.
-fn key(s: &[u8], at: usize) -> Scan
-    ensures { λ r. ⌜ Scanned (keyAt (now (s .entry)) at) at (length (now (s .entry))) r ⌝ }
+// The colon after a name that ends at `e`, and the white space about it: the index of the member's value.
+fn after_name(s: &[u8], e: usize) -> Scan
+    ensures { λ r. ⌜ Scanned (colon (now (s .entry)) (ws (now (s .entry)) e)) e (length (now (s .entry))) r ⌝ }
 {
-    match string(s, at) {
-        Scan::Bad(e) => Scan::Bad(e),
+    let j = skip(s, e);
+    if peek(s, j) == 58 {
+        Scan::End(skip(s, j + 1))
+    } else {
+        Scan::Bad(j)
+    }
+}
+
+// Where the table has room, notes that what was scanned at `at` ends where the scan ended.
+fn note(at: usize, r: Scan, ends: &mut [u16])
+    ensures { λ _. ⌜ Noted at r (now (ends .entry)) (now (ends .exit)) ⌝ }
+{
+    match r {
+        Scan::Bad(_) => {}
         Scan::End(e) => {
-            let j = skip(s, e);
-            if peek(s, j) == 58 {
-                Scan::End(skip(s, j + 1))
-            } else {
-                Scan::Bad(j)
+            if e < 65536 {
+                if at < ends.len() {
+                    ends[at] = e as u16;
+                }
             }
         }
     }
 }
 
-// Paper 01: "A value may be an array, and an array holds values". `value`, `array`, `object` and its `member` call each other; each call has
-// less nesting left, or as much and fewer bytes.
+// The string at `at`, noted.
+fn mark_string(s: &[u8], at: usize, ends: &mut [u16]) -> Scan
+    ensures { λ r. ⌜ Scanned (stringAt (now (s .entry)) at) at (length (now (s .entry))) r × Kept 0 (now (s .entry)) (now (ends .entry)) (now (ends .exit)) ⌝ }
+{
+    let end = string(s, at);
+    note(at, end, ends);
+    end
+}
 
-// The value at `at`, with arrays and objects nested at most `depth` deep.
-pub fn value(s: &[u8], at: usize, depth: u8) -> Scan
-    ensures { λ r. ⌜ Scanned (valueAt depth (now (s .entry)) at) at (length (now (s .entry))) r ⌝ }
+// A member's name, noted, and its colon: the index of the member's value.
+fn mark_key(s: &[u8], at: usize, ends: &mut [u16]) -> Scan
+    ensures { λ r. ⌜ Scanned (keyAt (now (s .entry)) at) at (length (now (s .entry))) r × Kept 0 (now (s .entry)) (now (ends .entry)) (now (ends .exit)) ⌝ }
+{
+    match mark_string(s, at, ends) {
+        Scan::Bad(e) => Scan::Bad(e),
+        Scan::End(e) => after_name(s, e),
+    }
+}
+
+fn is_opening(b: u16) -> bool
+    ensures { λ r. ⌜ r ≡ opens b ⌝ }
+{
+    if b == 91 {
+        return true;
+    }
+    b == 123
+}
+
+// The value at `at` that is no string, array or object: the same at each depth.
+fn leaf(s: &[u8], at: usize) -> Scan
+    requires { ⌜ Bare (byte (now s) at) ⌝ }
+    ensures { λ r. ⌜ Leaf (now (s .entry)) at r ⌝ }
 {
     match peek(s, at) {
-        91 => {
-            if depth == 0 {
-                return Scan::Bad(at);
-            }
-            array(s, at, depth - 1)
-        }
-        123 => {
-            if depth == 0 {
-                return Scan::Bad(at);
-            }
-            object(s, at, depth - 1)
-        }
-        34 => string(s, at),
         116 => literal(s, at, b"true"),
         102 => literal(s, at, b"false"),
         110 => literal(s, at, b"null"),
@@ -125,17 +152,60 @@ pub fn value(s: &[u8], at: usize, depth: u8) -> Scan
     }
 }
 
+// Paper 01: "A value may be an array, and an array holds values". `mark_value`, `inner_value`, `array`, `object` and its `member` call each other; each call has
+// less nesting left, or as much and fewer bytes.
+
+// The value at `at`, with arrays and objects nested at most `depth` deep; it and the values within it are noted.
+fn mark_value(s: &[u8], at: usize, depth: u8, ends: &mut [u16]) -> Scan
+    ensures { λ r. ⌜ Scanned (valueAt depth (now (s .entry)) at) at (length (now (s .entry))) r × Kept depth (now (s .entry)) (now (ends .entry)) (now (ends .exit)) ⌝ }
+{
+    match peek(s, at) {
+        91 => {
+            if depth == 0 {
+                return Scan::Bad(at);
+            }
+            let r = array(s, at, depth - 1, ends);
+            note(at, r, ends);
+            r
+        }
+        123 => {
+            if depth == 0 {
+                return Scan::Bad(at);
+            }
+            let r = object(s, at, depth - 1, ends);
+            note(at, r, ends);
+            r
+        }
+        34 => mark_string(s, at, ends),
+        _ => leaf(s, at),
+    }
+}
+
+// The same for a value within another: only an array or an object costs a call of `mark_value`.
+fn inner_value(s: &[u8], at: usize, depth: u8, ends: &mut [u16]) -> Scan
+    ensures { λ r. ⌜ Scanned (valueAt depth (now (s .entry)) at) at (length (now (s .entry))) r × Kept depth (now (s .entry)) (now (ends .entry)) (now (ends .exit)) ⌝ }
+{
+    let b = peek(s, at);
+    if b == 34 {
+        return mark_string(s, at, ends);
+    }
+    if is_opening(b) {
+        return mark_value(s, at, depth, ends);
+    }
+    leaf(s, at)
+}
+
 // The array whose bracket is at `at`; its values have arrays and objects nested at most `depth` deep.
-fn array(s: &[u8], at: usize, depth: u8) -> Scan
+fn array(s: &[u8], at: usize, depth: u8, ends: &mut [u16]) -> Scan
     requires { ⌜ at < length (now s) ⌝ }
-    ensures { λ r. ⌜ Scanned (arrayAt depth (now (s .entry)) at) at (length (now (s .entry))) r ⌝ }
+    ensures { λ r. ⌜ Scanned (arrayAt depth (now (s .entry)) at) at (length (now (s .entry))) r × Kept depth (now (s .entry)) (now (ends .entry)) (now (ends .exit)) ⌝ }
 {
     let mut i = skip(s, at + 1);
     if peek(s, i) == 93 {
         return Scan::End(i + 1);
     }
     loop {
-        match value(s, i, depth) {
+        match inner_value(s, i, depth, ends) {
             Scan::Bad(v) => return Scan::Bad(v),
             Scan::End(v) => {
                 let j = skip(s, v);
@@ -150,16 +220,16 @@ fn array(s: &[u8], at: usize, depth: u8) -> Scan
 }
 
 // The object whose brace is at `at`, likewise.
-fn object(s: &[u8], at: usize, depth: u8) -> Scan
+fn object(s: &[u8], at: usize, depth: u8, ends: &mut [u16]) -> Scan
     requires { ⌜ at < length (now s) ⌝ }
-    ensures { λ r. ⌜ Scanned (objectAt depth (now (s .entry)) at) at (length (now (s .entry))) r ⌝ }
+    ensures { λ r. ⌜ Scanned (objectAt depth (now (s .entry)) at) at (length (now (s .entry))) r × Kept depth (now (s .entry)) (now (ends .entry)) (now (ends .exit)) ⌝ }
 {
     let mut i = skip(s, at + 1);
     if peek(s, i) == 125 {
         return Scan::End(i + 1);
     }
     loop {
-        match member(s, i, depth) {
+        match member(s, i, depth, ends) {
             Scan::Bad(m) => return Scan::Bad(m),
             Scan::End(m) => {
                 let j = skip(s, m);
@@ -174,20 +244,40 @@ fn object(s: &[u8], at: usize, depth: u8) -> Scan
 }
 
 // The member whose name's quote is at `at`: its name, its colon, its value.
-fn member(s: &[u8], at: usize, depth: u8) -> Scan
-    ensures { λ r. ⌜ Scanned (memberOf (λ k. valueAt depth (now (s .entry)) k) (now (s .entry)) at) at (length (now (s .entry))) r ⌝ }
+fn member(s: &[u8], at: usize, depth: u8, ends: &mut [u16]) -> Scan
+    ensures { λ r. ⌜ Scanned (memberOf (λ k. valueAt depth (now (s .entry)) k) (now (s .entry)) at) at (length (now (s .entry))) r × Kept depth (now (s .entry)) (now (ends .entry)) (now (ends .exit)) ⌝ }
 {
-    match key(s, at) {
+    match mark_key(s, at, ends) {
         Scan::Bad(e) => Scan::Bad(e),
-        Scan::End(k) => value(s, k, depth),
+        Scan::End(k) => inner_value(s, k, depth, ends),
     }
 }
 
-// A whole text: `End` of its length, or the first place at which it cannot be a JSON text nested at most 16 deep.
-pub fn document(s: &[u8]) -> Scan
-    ensures { λ r. ⌜ r ≡ documentOf (now (s .entry)) ⌝ }
+fn least(a: usize, b: usize) -> usize
+    ensures { λ r. ⌜ Least a b r ⌝ }
 {
-    match value(s, skip(s, 0), 16) {
+    if a < b { a } else { b }
+}
+
+// Clears the entries of the first `n` places. By ones, which tell as little as zeros: that is compiled to vector code, not to a call.
+fn clear(n: usize, ends: &mut [u16])
+    ensures { λ _. ⌜ Cleared n (now (ends .exit)) ⌝ }
+{
+    let m = least(n, ends.len());
+    let mut i = 0;
+    while i < m {
+        ends[i] = 1;
+        i += 1;
+    }
+}
+
+// A whole text: `End` of its length, or the first place at which it cannot be a JSON text nested at most 16 deep. The table then tells where the
+// strings, arrays and objects end that were read, whatever it held before.
+pub fn mark(s: &[u8], ends: &mut [u16]) -> Scan
+    ensures { λ r. ⌜ Marked (now (s .entry)) r (now (ends .exit)) ⌝ }
+{
+    clear(s.len(), ends);
+    match mark_value(s, skip(s, 0), 16, ends) {
         Scan::Bad(e) => Scan::Bad(e),
         Scan::End(e) => {
             let j = skip(s, e);
@@ -200,20 +290,12 @@ pub fn document(s: &[u8]) -> Scan
     }
 }
 
-fn is_opening(b: u16) -> bool
-    ensures { λ r. ⌜ r ≡ opens b ⌝ }
-{
-    if b == 91 {
-        return true;
-    }
-    b == 123
-}
-
 // Whether the text is one array or object with white space around, nested at most 16 deep.
 pub fn is_container(s: &[u8]) -> bool
     ensures { λ r. ⌜ r ≡ isContainer (now (s .entry)) ⌝ }
 {
-    match document(s) {
+    let mut none = [0u16; 1];
+    match mark(s, &mut none) {
         Scan::Bad(_) => false,
         Scan::End(_) => is_opening(peek(s, skip(s, 0))),
     }
@@ -230,13 +312,71 @@ fn next(s: &[u8], e: usize) -> usize
     j
 }
 
-// The member whose name's quote is at `i`.
-pub fn member_at(s: &[u8], i: usize) -> Item
-    ensures { λ r. ⌜ GotItem (memberAt (now (s .entry)) i) i (length (now (s .entry))) r ⌝ }
+// ---- by the table that `mark` filled: what stands here is stepped over in the same time however long it is. Whatever the table holds the answer
+// lies in the text.
+
+fn wide(x: u16) -> usize
+    ensures { λ r. ⌜ r ≡ x ⌝ }
 {
-    match key(s, i) {
+    x as usize
+}
+
+// The table's entry for a place, where it can be the end of something there in a text of length n; otherwise 0.
+fn end_in(n: usize, k: usize, ends: &[u16]) -> usize
+    ensures { λ r. ⌜ Told (now (ends .entry)) k n r ⌝ }
+{
+    if k < ends.len() {
+        let e = wide(ends[k]);
+        if k + 1 < e {
+            if e <= n {
+                return e;
+            }
+        }
+    }
+    0
+}
+
+// The string at `at`.
+pub fn string_by(s: &[u8], at: usize, ends: &[u16]) -> Scan
+    ensures { λ r. ⌜ ScannedIf (Ends (now (s .entry)) (now (ends .entry))) (stringAt (now (s .entry)) at) at (length (now (s .entry))) r ⌝ }
+{
+    if peek(s, at) != 34 {
+        return Scan::Bad(at);
+    }
+    let e = end_in(s.len(), at, ends);
+    if e == 0 { string(s, at) } else { Scan::End(e) }
+}
+
+// The value at `k`.
+pub fn value_by(s: &[u8], k: usize, ends: &[u16]) -> Scan
+    ensures { λ r. ⌜ ScannedIf (Ends (now (s .entry)) (now (ends .entry))) (valueAt 16 (now (s .entry)) k) k (length (now (s .entry))) r ⌝ }
+{
+    let e = end_in(s.len(), k, ends);
+    if e == 0 {
+        let mut none = [0u16; 1];
+        inner_value(s, k, 16, &mut none)
+    } else {
+        Scan::End(e)
+    }
+}
+
+// A member's name and its colon: the index of the member's value.
+fn key_by(s: &[u8], at: usize, ends: &[u16]) -> Scan
+    ensures { λ r. ⌜ ScannedIf (Ends (now (s .entry)) (now (ends .entry))) (keyAt (now (s .entry)) at) at (length (now (s .entry))) r ⌝ }
+{
+    match string_by(s, at, ends) {
+        Scan::Bad(e) => Scan::Bad(e),
+        Scan::End(e) => after_name(s, e),
+    }
+}
+
+// The member whose name's quote is at `i`.
+pub fn member_by(s: &[u8], i: usize, ends: &[u16]) -> Item
+    ensures { λ r. ⌜ GotItemIf (Ends (now (s .entry)) (now (ends .entry))) (memberAt (now (s .entry)) i) i (length (now (s .entry))) r ⌝ }
+{
+    match key_by(s, i, ends) {
         Scan::Bad(_) => Item::Done,
-        Scan::End(k) => match value(s, k, 16) {
+        Scan::End(k) => match value_by(s, k, ends) {
             Scan::Bad(_) => Item::Done,
             Scan::End(e) => Item::At(k, e, next(s, e)),
         },
@@ -244,24 +384,11 @@ pub fn member_at(s: &[u8], i: usize) -> Item
 }
 
 // The element at `i`.
-pub fn element_at(s: &[u8], i: usize) -> Item
-    ensures { λ r. ⌜ GotItem (elementAt (now (s .entry)) i) i (length (now (s .entry))) r ⌝ }
+pub fn element_by(s: &[u8], i: usize, ends: &[u16]) -> Item
+    ensures { λ r. ⌜ GotItemIf (Ends (now (s .entry)) (now (ends .entry))) (elementAt (now (s .entry)) i) i (length (now (s .entry))) r ⌝ }
 {
-    match value(s, i, 16) {
+    match value_by(s, i, ends) {
         Scan::Bad(_) => Item::Done,
         Scan::End(e) => Item::At(i, e, next(s, e)),
-    }
-}
-
-// Whether the string at `at` is just these bytes between its quotes.
-pub fn is_named(s: &[u8], at: usize, name: &[u8]) -> bool
-    ensures { λ r. ⌜ r ≡ namedAt (now (name .entry)) (now (s .entry)) at ⌝ }
-{
-    match string(s, at) {
-        Scan::Bad(_) => false,
-        Scan::End(e) => match literal(s, at + 1, name) {
-            Scan::Bad(_) => false,
-            Scan::End(j) => j + 1 == e,
-        },
     }
 }

@@ -1,13 +1,14 @@
-// Strings (RFC 8259, 7), byte by byte.
+// Strings (RFC 8259, 7): runs of bytes that stand for themselves, and escapes byte by byte.
 use super::in_range;
 use super::peek;
 use crate::Scan;
 ghost use mathlib.Core.Path.{_≡_};
-ghost use Prim.Native.Nat.{_≤_};
-ghost use lib.ListN.{length, drop};
+ghost use Prim.Native.Nat.{_+_, _≤_};
+ghost use lib.ListN.{length};
 ghost use Rattle.json.specs.Bytes.{Scanned};
-ghost use Rattle.json.specs.Strings.{isHex, isEscape, plainStep, escapeStep, hexStep, textStep, text, stringAt};
-ghost use mathlib.Core.Bool.{true};
+ghost use Rattle.json.specs.Strings.{isHex, isEscape, plainStep, escapeStep, hexStep, textStep, stringAt};
+ghost use Rattle.json.specs.Parts.{isPlain, Run, RunOver, Escaped};
+ghost use mathlib.Core.Bool.{true, false};
 ghost use Rattle.json.specs.declared.string.State.the-variants.{Plain};
 ghost use Rattle.json.specs.declared.string.Move.the-variants.{Go};
 
@@ -108,35 +109,117 @@ fn text_step(t: State, b: u16) -> Move
     }
 }
 
-// Whether a byte stands for itself.
+// Whether a byte stands for itself: without a branch, so that the compiler tests many bytes at once.
 fn is_plain(b: u8) -> bool
     ensures { λ r. ⌜ (r ≡ true → plainStep b ≡ Go Plain) ⌝ }
 {
-    if b < 32 {
-        return false;
+    (b >= 32) & (b != 34) & (b != 92)
+}
+
+fn are_plain_4(s: &[u8], i: usize) -> bool
+    requires { ⌜ i + 4 ≤ length (now s) ⌝ }
+    ensures { λ r. ⌜ (r ≡ true → Run (now (s .entry)) i (i + 4)) ⌝ }
+{
+    is_plain(s[i]) & is_plain(s[i + 1]) & is_plain(s[i + 2]) & is_plain(s[i + 3])
+}
+
+fn are_plain_8(s: &[u8], i: usize) -> bool
+    requires { ⌜ i + 8 ≤ length (now s) ⌝ }
+    ensures { λ r. ⌜ (r ≡ true → Run (now (s .entry)) i (i + 8)) ⌝ }
+{
+    are_plain_4(s, i) & are_plain_4(s, i + 4)
+}
+
+// Past bytes from `at` on that stand for themselves, 8 at a time.
+fn plain_blocks(s: &[u8], at: usize) -> usize
+    requires { ⌜ at ≤ length (now s) ⌝ }
+    ensures { λ r. ⌜ Run (now (s .entry)) at r ⌝ }
+{
+    let mut i = at;
+    while s.len() - i >= 8 {
+        if !are_plain_8(s, i) {
+            return i;
+        }
+        i += 8;
     }
-    if b == 34 {
-        return false;
+    i
+}
+
+// Whether a byte stands for itself: few tests for most bytes.
+fn stands(b: u8) -> bool
+    ensures { λ r. ⌜ r ≡ isPlain b ⌝ }
+{
+    if b > 92 {
+        return true;
     }
     if b == 92 {
         return false;
     }
-    true
+    if b > 34 {
+        return true;
+    }
+    if b == 34 {
+        return false;
+    }
+    b >= 32
 }
 
-// Past the bytes from `at` on that stand for themselves.
-fn plain_run(s: &[u8], at: usize) -> usize
+// Past the bytes from `at` on that stand for themselves, one at a time.
+fn plain_bytes(s: &[u8], at: usize) -> usize
     requires { ⌜ at ≤ length (now s) ⌝ }
-    ensures { λ r. ⌜ (at ≤ r) × (r ≤ length (now (s .entry))) × (text Plain (drop r (now (s .entry))) r ≡ text Plain (drop at (now (s .entry))) at) ⌝ }
+    ensures { λ r. ⌜ RunOver (now (s .entry)) at r ⌝ }
 {
     let mut i = at;
     while i < s.len() {
-        if !is_plain(s[i]) {
+        if !stands(s[i]) {
             return i;
         }
         i += 1;
     }
     i
+}
+
+// Past the bytes from `at` on that stand for themselves.
+fn plain_run(s: &[u8], at: usize) -> usize
+    requires { ⌜ at ≤ length (now s) ⌝ }
+    ensures { λ r. ⌜ RunOver (now (s .entry)) at r ⌝ }
+{
+    plain_bytes(s, plain_blocks(s, at))
+}
+
+fn is_over(t: State) -> bool
+    ensures { λ r. ⌜ (r ≡ true → t ≡ Plain) × (r ≡ false → t ≡ Plain → ⊥) ⌝ }
+{
+    match t {
+        State::Plain => true,
+        State::Escape => false,
+        State::Hex4 => false,
+        State::Hex3 => false,
+        State::Hex2 => false,
+        State::Hex1 => false,
+    }
+}
+
+// What stands after a backslash, from `at` on.
+fn escape(s: &[u8], at: usize) -> Scan
+    requires { ⌜ at ≤ length (now s) ⌝ }
+    ensures { λ r. ⌜ Escaped (now (s .entry)) at r ⌝ }
+{
+    let mut t = State::Escape;
+    let mut i = at;
+    loop {
+        match text_step(t, peek(s, i)) {
+            Move::Go(u) => {
+                t = u;
+                i += 1;
+                if is_over(u) {
+                    return Scan::End(i);
+                }
+            }
+            Move::Shut => return Scan::Bad(i),
+            Move::Stuck => return Scan::Bad(i),
+        }
+    }
 }
 
 // The string at `at`, from its opening quote.
@@ -146,16 +229,16 @@ pub fn string(s: &[u8], at: usize) -> Scan
     if peek(s, at) != 34 {
         return Scan::Bad(at);
     }
-    let mut t = State::Plain;
-    let mut i = plain_run(s, at + 1);
+    let mut i = at + 1;
     loop {
-        match text_step(t, peek(s, i)) {
-            Move::Go(u) => {
-                t = u;
-                i += 1;
-            }
-            Move::Shut => return Scan::End(i + 1),
-            Move::Stuck => return Scan::Bad(i),
+        let j = plain_run(s, i);
+        match peek(s, j) {
+            34 => return Scan::End(j + 1),
+            92 => match escape(s, j + 1) {
+                Scan::Bad(e) => return Scan::Bad(e),
+                Scan::End(e) => i = e,
+            },
+            _ => return Scan::Bad(j),
         }
     }
 }

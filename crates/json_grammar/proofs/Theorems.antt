@@ -15,7 +15,8 @@ use Rattle.json_grammar.specs.Listing.{StandsWithin, IsMember, IsElement
 use Rattle.json.specs.declared.Scan.the-variants.{End}
 use Rattle.json_grammar.proofs.Sound.{sound}
 use Rattle.json_grammar.proofs.Complete.{complete}
-use Rattle.json_grammar.proofs.Listing.{value-within, raise, object-members, array-elements}
+use Rattle.json.proofs.Raise.{raise}
+use Rattle.json_grammar.proofs.Listing.{value-within, object-members, array-elements}
 use Rattle.json_grammar.proofs.Containers.{container-reads, container-read, ends}
 
 -- The reader takes exactly the byte strings of RFC 8259's grammar that are nested at most 16 deep.

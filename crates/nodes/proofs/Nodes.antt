@@ -1,94 +1,115 @@
 -- What each way through the code shows of nodes and their properties.
-use Prim.Native.Nat.{ℕ, _+_, _≤_}
+use Prim.Native.Nat.{ℕ, _+_, _≤_, _<_}
+use native.Mathlib.Omega.{arith}
 use mathlib.Core.Path.{_≡_, refl, sym, ap, _∙_, subst}
 use mathlib.Core.List.{List, [], _∷_, _++_}
-use mathlib.Core.Bool.{Bool, true, false, not}
+use mathlib.Core.Bool.{Bool, true, false, not, _&&_, true≢false, and-false}
 use mathlib.Core.Option.{Option, none, some}
 use lib.ListN.{length}
 use Rattle.text.specs.Ids.{isId}
+use Rattle.text.proofs.Bytes.{both}
 use Rattle.json.specs.Bytes.{byte, ws}
 use Rattle.json.specs.Members.{Member, memberAt, GotItem}
 use Rattle.json.specs.declared.Item.{Item}
 use Rattle.json.specs.declared.Item.the-variants.{At, Done}
-use Rattle.fields.specs.Values.{stringBytes, isObject, members, all}
-use Rattle.fields.specs.Fields.{holds, pairs, field, optional, isTwice, membersIn, plainIn}
-use Rattle.fields.specs.Members.{pairsOf, fieldOf}
-use Rattle.fields.specs.declared.Members.{Members}
-use Rattle.fields.specs.declared.Kind.the-variants.{Text, Object}
-use Rattle.fields.proofs.Table.{field-of, plain-of}
+use Rattle.fields.specs.Values.{stringBytes, isObject, members, nameOf, all}
+use Rattle.fields.specs.Fields.{holds, field, isTwice, membersIn, plainNames}
+use Rattle.fields.specs.Known.{knownName, fieldAt, Knows}
+use Rattle.fields.specs.declared.Known.{Known}
 use Rattle.fields.specs.declared.Field.{Field}
 use Rattle.fields.specs.declared.Field.the-variants.{Absent, One, Twice}
-use Rattle.fields.proofs.Walk.{Walking, walking-as, at-done, at-item, no-members, first-member}
-use Rattle.fields.proofs.Rules.{broken, kept, last}
+use Rattle.fields.proofs.Walk.{Walking, walking-as, at-done, at-item, no-members, first-member, all-done, all-no, all-yes}
+use Rattle.fields.proofs.Rules.{broken, kept, last, some-broken, all-kept}
 use Rattle.properties.specs.Property.{Property, propertyAt}
-use Rattle.properties.specs.Entries.{addProperty, addProperties, collected}
+use Rattle.properties.specs.Entries.{view, addProperty, addProperties, collected}
+use Rattle.properties.specs.Judged.{Judges}
+use Rattle.properties.specs.declared.Judged.{Judged}
 use Rattle.properties.proofs.Collection.{put-all-append, collects}
 use Rattle.nodes.specs.Names.{name, type, properties}
 use Rattle.nodes.specs.Nodes.{idRules, each, propertyMember, nodeRules, propertiesAmong, propertiesOf}
-use Rattle.nodes.specs.Parts.{idRulesIn}
+use Rattle.nodes.specs.Parts.{fieldRules}
+use Rattle.nodes.specs.Listed.{Lists}
+use Rattle.nodes.specs.declared.Listed.{Listed}
 
--- ---- an ID that no other member has
+-- the rule of the ID and then others
+module _ (rules : List Bool) (s : List ℕ) (i : ℕ) {t : List ℕ} {b : Bool} (p : t ≡ stringBytes s i) (q : b ≡ isId t) where
+  pub no-id : b ≡ false → false ≡ holds (isId (stringBytes s i) ∷ rules)
+  no-id e = broken rules (q ∙ ap isId p) e
 
-module _ (s : List ℕ) (m : Members) (i : ℕ) {t : List ℕ} {b : Bool} (p : t ≡ stringBytes s i) (q : b ≡ isId t) where
-  pub id-no : b ≡ false → false ≡ holds (idRulesIn s m i)
-  unfolding idRulesIn
-  id-no e = broken _ (q ∙ ap isId p) e
+  pub judge-member : (want : Property) (j : Judged) → b ≡ true → Judges rules want s j → Judges (isId (stringBytes s i) ∷ rules) want s j
+  judge-member want j e v = record { valid = kept rules (q ∙ ap isId p) e (v .valid); declares = v .declares }
 
-  module _ (e : b ≡ true) {u : List ℕ} {f : Field} (x : u ≡ stringBytes s i) (y : f ≡ fieldOf s m u) where
-    found : f ≡ fieldOf s m (stringBytes s i)
-    found = y ∙ ap (fieldOf s m) x
+  pub lists-member : {want : Option (List Property)} (r : Listed) → b ≡ true → Lists (holds rules) want s r → Lists (holds (isId (stringBytes s i) ∷ rules)) want s r
+  lists-member r e v = record { valid = kept rules (q ∙ ap isId p) e (v .valid); list = v .list }
 
-    pub id-once : {r : Bool} → r ≡ not (isTwice f) → r ≡ holds (idRulesIn s m i)
-    unfolding idRulesIn
-    id-once z = kept _ (q ∙ ap isId p) e (last (z ∙ ap (λ (g : Field). not (isTwice g)) found))
+-- ---- a list, if the rules hold
 
-module _ {f : Field} where
-  pub once-absent : f ≡ Absent → true ≡ not (isTwice f)
-  unfolding isTwice
-  once-absent q = rw q
+module _ {ok : Bool} {want : Option (List Property)} (s : List ℕ) (r : Listed) where
+  pub lists-no : r .valid ≡ false → false ≡ ok → Lists ok want s r
+  lists-no e p = record { valid = e ∙ p; list = λ t. absurd (true≢false (sym t ∙ e)) }
 
-  pub once-one : {k : ℕ} → f ≡ One k → true ≡ not (isTwice f)
-  unfolding isTwice
-  once-one q = rw q
+  pub lists-yes : r .valid ≡ true → true ≡ ok → view s (r .list) ≡ want → Lists ok want s r
+  lists-yes e p q = record { valid = e ∙ p; list = λ t. q }
 
-  pub once-twice : f ≡ Twice → false ≡ not (isTwice f)
-  unfolding isTwice
-  once-twice q = rw q
+-- ---- IDs
 
--- ---- the rules, read in the table of the object's members
+module _ (s : List ℕ) (at : ℕ) (rest : Member → List Bool) where
+  split-ids : (ms : List Member) → all (λ m. holds (idRules s at (m .name) ++ rest m)) ms ≡ (all (λ m. not (isTwice (field s at (nameOf s m)))) ms && all (λ m. holds (isId (stringBytes s (m .name)) ∷ rest m)) ms)
+  unfolding all idRules holds nameOf
+  split-ids [] = refl
+  split-ids (m ∷ ms) =
+      let none = sym (and-false (all (λ m. not (isTwice (field s at (nameOf s m)))) ms)) in
+      both (isId (stringBytes s (m .name)))
+      (λ a. both (not (isTwice (field s at (stringBytes s (m .name)))))
+      (λ b. both (holds (rest m)) (λ c. rw (a, b, c, all) (split-ids ms)) (λ c. rw (a, b, c, all) none))
+      (λ b. rw (a, b, all)))
+      (λ a. both (not (isTwice (field s at (stringBytes s (m .name))))) (λ b. rw (a, b, all) none) (λ b. rw (a, b, all)))
 
-module _ (s : List ℕ) (at : ℕ) (m : Members) (h : pairsOf s m ≡ pairs s (members s at)) where
-  pub ids-by-table : (i : ℕ) (rs : List Bool) {r : Bool} → r ≡ holds (idRulesIn s m i ++ rs) → r ≡ holds (idRules s at i ++ rs)
-  unfolding idRulesIn idRules
-  ids-by-table i rs x = x ∙ rw (field-of s at m h (stringBytes s i))
+  module _ {d : Bool} (p : d ≡ all (λ m. not (isTwice (field s at (nameOf s m)))) (members s at)) {want : Option (List Property)} (r : Listed) where
+    pub lists-alike : d ≡ false → r .valid ≡ false → Lists (all (λ m. holds (idRules s at (m .name) ++ rest m)) (members s at)) want s r
+    lists-alike e v = lists-no s r v (sym (split-ids (members s at) ∙ rw (sym p ∙ e)))
 
-unfoldable pub nodeRulesIn : List ℕ → ℕ → Members → List Bool
-nodeRulesIn s k m =
-    isObject s k ∷
-    plainIn (pairsOf s m) ∷
-    optional Text s (fieldOf s m name) ∷
-    optional Text s (fieldOf s m type) ∷
-    optional Object s (fieldOf s m properties) ∷
-    each (propertyMember s) s (fieldOf s m properties) ∷ []
+    pub lists-apart : d ≡ true → Lists (all (λ m. holds (isId (stringBytes s (m .name)) ∷ rest m)) (members s at)) want s r → Lists (all (λ m. holds (idRules s at (m .name) ++ rest m)) (members s at)) want s r
+    lists-apart e v = record { valid = v .valid ∙ sym (split-ids (members s at) ∙ rw (sym p ∙ e)); list = v .list }
 
-pub node-by-table : (s : List ℕ) (k : ℕ) (m : Members) {r : Bool} → pairsOf s m ≡ pairs s (members s k) → r ≡ holds (nodeRulesIn s k m) → r ≡ holds (nodeRules s k)
-unfolding nodeRulesIn nodeRules
-node-by-table s k m h x = x ∙ rw (plain-of s k m h, field-of s k m h name, field-of s k m h type, field-of s k m h properties)
+-- put into no properties
+pub lists-all : {ok : Bool} (ps : List Property) (l : Option (List Property)) (s : List ℕ) (r : Listed) → l ≡ some [] → Lists ok (addProperties ps l) s r → Lists ok (collected ps) s r
+lists-all ps l s r e v = record { valid = v .valid; list = λ t. v .list t ∙ ap (addProperties ps) e ∙ collects ps }
 
--- ---- the members of a field's object
+-- by the field's case
+module _ (rules : ℕ → Member → List Bool) (add : List Member → List Property) (s : List ℕ) {f : Field} (l : Option (List Property)) (r : Listed) where
+  pub lists-absent : add [] ≡ [] → f ≡ Absent → r .valid ≡ true → view s (r .list) ≡ l → Lists (each rules s f) (addProperties (add (membersIn s f)) l) s r
+  unfolding each membersIn addProperties
+  lists-absent z q e x = rw q (lists-yes s r e refl (x ∙ sym (ap (λ (ps : List Property). addProperties ps l) z)))
 
-module _ (rules : ℕ → Member → List Bool) (s : List ℕ) {f : Field} where
-  pub each-absent : f ≡ Absent → true ≡ each rules s f
-  unfolding each
-  each-absent q = rw q
+  pub lists-twice : add [] ≡ [] → f ≡ Twice → r .valid ≡ true → view s (r .list) ≡ l → Lists (each rules s f) (addProperties (add (membersIn s f)) l) s r
+  unfolding each membersIn addProperties
+  lists-twice z q e x = rw q (lists-yes s r e refl (x ∙ sym (ap (λ (ps : List Property). addProperties ps l) z)))
 
-  pub each-one : {k : ℕ} {r : Bool} → f ≡ One k → r ≡ all (λ m. holds (rules k m)) (members s k) → r ≡ each rules s f
-  unfolding each
-  each-one q x = rw q x
+  pub lists-one : {k : ℕ} → f ≡ One k → Lists (all (λ m. holds (rules k m)) (members s k)) (addProperties (add (members s k)) l) s r → Lists (each rules s f) (addProperties (add (membersIn s f)) l) s r
+  unfolding each membersIn
+  lists-one q v = rw q v
 
-  pub each-twice : f ≡ Twice → true ≡ each rules s f
-  unfolding each
-  each-twice q = rw q
+-- ---- a node
+
+module _ (s : List ℕ) (k : ℕ) (m : Known) (w : Knows s k m) (p : m .plain ≡ true) {b : Bool} (o : b ≡ isObject s k) (t : b ≡ true) where
+  node-rules : holds (fieldRules s (m .seen) ++ (each (propertyMember s) s (fieldAt (m .seen) 13) ∷ [])) ≡ holds (nodeRules s k)
+  unfolding fieldRules nodeRules holds knownName
+  node-rules = rw (w .fields p 0 (omega arith), w .fields p 1 (omega arith), w .fields p 13 (omega arith), sym o ∙ t, sym (w .plain) ∙ p)
+
+  pub node-no : {q : Bool} → q ≡ holds (fieldRules s (m .seen)) → q ≡ false → false ≡ holds (nodeRules s k)
+  node-no x e = some-broken (fieldRules s (m .seen)) (each (propertyMember s) s (fieldAt (m .seen) 13) ∷ []) x e ∙ node-rules
+
+  sees-properties : fieldAt (m .seen) 13 ≡ field s k properties
+  unfolding knownName
+  sees-properties = w .fields p 13 (omega arith)
+
+  pub node-lists : {q : Bool} {f : Field} (add : List Member → List Property) (l : Option (List Property)) (r : Listed) → q ≡ holds (fieldRules s (m .seen)) → q ≡ true → f ≡ fieldAt (m .seen) 13
+      → Lists (each (propertyMember s) s f) (addProperties (add (membersIn s f)) l) s r → Lists (holds (nodeRules s k)) (addProperties (add (membersIn s (field s k properties))) l) s r
+  node-lists add l r x e y v = record {
+    valid = all-kept (fieldRules s (m .seen)) (each (propertyMember s) s (fieldAt (m .seen) 13) ∷ []) x e (last (v .valid ∙ ap (each (propertyMember s) s) y)) ∙ node-rules;
+    list = λ z. v .list z ∙ ap (λ (g : Field). addProperties (add (membersIn s g)) l) (y ∙ sees-properties);
+  }
 
 -- ---- lists that grow with each member
 
@@ -135,20 +156,27 @@ pub put-one : {p q : Property} (l : Option (List Property)) {l′ : Option (List
 unfolding addProperties
 put-one l e x = x ∙ ap (λ (r : Property). addProperty r l) e
 
--- by the field's case
-module _ (add : List Member → List Property) (z : add [] ≡ []) (s : List ℕ) {f g : Field} (e : f ≡ g) (l : Option (List Property)) where
-  pub in-absent : f ≡ Absent → l ≡ addProperties (add (membersIn s g)) l
-  unfolding membersIn addProperties
-  in-absent q = sym (ap (λ (h : Field). addProperties (add (membersIn s h)) l) (sym e ∙ q) ∙ ap (λ (ps : List Property). addProperties ps l) z)
+-- ---- the walk that judges each member and puts in what it declares
 
-  pub in-twice : f ≡ Twice → l ≡ addProperties (add (membersIn s g)) l
-  unfolding membersIn addProperties
-  in-twice q = sym (ap (λ (h : Field). addProperties (add (membersIn s h)) l) (sym e ∙ q) ∙ ap (λ (ps : List Property). addProperties ps l) z)
+pub record Listing (s : List ℕ) (test : Member → Bool) (add : List Member → List Property) (l : Option (List Property)) (i : ℕ) (ok : Bool) (want : Option (List Property)) : Type 0 where
+  pub judged : Walking (memberAt s) (all test) (length s) i ok
+  pub added : Walking (memberAt s) (λ ms. addProperties (add ms) l) (length s) i want
 
-  pub in-one : {k : ℕ} {r : Option (List Property)} → f ≡ One k → r ≡ addProperties (add (members s k)) l → r ≡ addProperties (add (membersIn s g)) l
-  unfolding membersIn
-  in-one q x = x ∙ sym (ap (λ (h : Field). addProperties (add (membersIn s h)) l) (sym e ∙ q))
+module _ (test : Member → Bool) (add : List Member → List Property) (s : List ℕ) (at : ℕ) {b : ℕ} (p : b ≡ byte s at) (l : Option (List Property)) where
+  pub list-none : add [] ≡ [] → (b ≡ 123 → ⊥) → (r : Listed) → r .valid ≡ true → view s (r .list) ≡ l → Lists (all test (members s at)) (addProperties (add (members s at)) l) s r
+  unfolding all
+  list-none z n r e x = lists-yes s r e (no-members (all test) s at p n) (x ∙ adds-none add s at p l z n)
 
--- put into no properties
-pub from-empty : (ps : List Property) (l : Option (List Property)) {r : Option (List Property)} → l ≡ some [] → r ≡ addProperties ps l → r ≡ collected ps
-from-empty ps l e x = x ∙ ap (addProperties ps) e ∙ collects ps
+  pub list-first : {i : ℕ} → b ≡ 123 → i ≡ ws s (at + 1) → i ≤ length s → Listing s test add l i (all test (members s at)) (addProperties (add (members s at)) l)
+  list-first e q h = record { judged = first-member (all test) s at p e q h; added = adds-first add s at p l e q h }
+
+module _ (test : Member → Bool) (add : List Member → List Property) (s : List ℕ) (i : ℕ) (l : Option (List Property)) {ok : Bool} {want : Option (List Property)} (g : Listing s test add l i ok want) where
+  pub list-done : add [] ≡ [] → memberAt s i ≡ Done → (r : Listed) → r .valid ≡ true → view s (r .list) ≡ l → Lists ok want s r
+  list-done z q r e x = lists-yes s r e (all-done (memberAt s) test (length s) i (g .judged) q) (x ∙ adds-done add s i l (g .added) z q)
+
+  module _ {k e n : ℕ} (w : GotItem (memberAt s i) i (length s) (At k e n)) {b : Bool} (p : b ≡ test (record { name = i; value = k; end = e })) where
+    pub list-no : b ≡ false → (r : Listed) → r .valid ≡ false → Lists ok want s r
+    list-no x r y = lists-no s r y (all-no (memberAt s) test (length s) i (g .judged) w p x)
+
+    pub list-more : {l′ : Option (List Property)} (ps : List Property) → b ≡ true → ((ms : List Member) → add (record { name = i; value = k; end = e } ∷ ms) ≡ ps ++ add ms) → l′ ≡ addProperties ps l → Listing s test add l′ n ok want
+    list-more ps x z y = record { judged = all-yes (memberAt s) test (length s) i (g .judged) w p x; added = adds-more add s i l (g .added) ps w z y }

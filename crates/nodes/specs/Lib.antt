@@ -1,3 +1,4 @@
 pub mod Names
 pub mod Nodes
+pub mod Listed
 pub mod Parts

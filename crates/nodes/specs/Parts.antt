@@ -1,15 +1,19 @@
 -- What the contracts of private functions cite.
 use Prim.Native.Nat.{ℕ}
+use mathlib.Core.Path.{_≡_}
 use mathlib.Core.List.{List, [], _∷_}
-use mathlib.Core.Bool.{Bool, not}
-use Rattle.text.specs.Ids.{isId}
-use Rattle.fields.specs.Values.{stringBytes}
-use Rattle.fields.specs.Fields.{isTwice}
-use Rattle.fields.specs.Members.{fieldOf}
-use Rattle.fields.specs.declared.Members.{Members}
+use mathlib.Core.Bool.{Bool}
+use Rattle.fields.specs.Fields.{optional}
+use Rattle.fields.specs.Known.{fieldAt}
+use Rattle.fields.specs.declared.Kind.the-variants.{Text, Object}
+use Rattle.properties.specs.declared.Entries.{Entries}
+use Rattle.nodes.specs.declared.Listed.{Listed}
 
--- the rules of an ID, read in the table of the object's members
-unfoldable pub idRulesIn : List ℕ → Members → ℕ → List Bool
-idRulesIn s m i =
-    isId (stringBytes s i) ∷
-    not (isTwice (fieldOf s m (stringBytes s i))) ∷ []
+-- an answer of these
+pub record Puts (valid : Bool) (list : Entries) (r : Listed) : Type 0 where
+  pub told : r .valid ≡ valid
+  pub held : r .list ≡ list
+
+-- the rules of a node's known fields, by what was seen of them
+unfoldable pub fieldRules : List ℕ → List ℕ → List Bool
+fieldRules s seen = optional Text s (fieldAt seen 0) ∷ optional Text s (fieldAt seen 1) ∷ optional Object s (fieldAt seen 13) ∷ []

@@ -1,201 +1,171 @@
-// The nodes of a description: judged, and their properties listed.
+// The nodes of a description: judged, and their properties listed. Answers are right if the table of ends is.
 use fields::Field;
 use fields::Kind;
-use fields::Members;
 use json::Item;
 use properties::Entries;
+use properties::Judged;
 ghost use mathlib.Core.Path.{_≡_};
-ghost use mathlib.Core.List.{_++_};
-ghost use Rattle.fields.specs.Values.{members, all};
+ghost use mathlib.Core.List.{_∷_};
+ghost use Rattle.text.specs.Ids.{isId};
+ghost use Rattle.json.specs.Ends.{Ends};
+ghost use Rattle.fields.specs.Values.{stringBytes, members, all};
 ghost use Rattle.fields.specs.Fields.{holds, field, membersIn};
-ghost use Rattle.properties.specs.Property.{propertyRules};
+ghost use Rattle.properties.specs.Property.{propertyRules, propertyAt};
 ghost use Rattle.properties.specs.Entries.{view, addProperties, collected};
+ghost use Rattle.properties.specs.Judged.{Judges};
 ghost use Rattle.nodes.specs.Names.{properties};
-ghost use Rattle.nodes.specs.Parts.{idRulesIn};
 ghost use Rattle.nodes.specs.Nodes.{propertyMember, each, nodeRules, nodeMember, propertiesAmong, propertiesOf};
+ghost use Rattle.nodes.specs.Parts.{Puts, fieldRules};
+ghost use Rattle.nodes.specs.Listed.{Lists};
 
-// Whether the string at `i` is an ID, and names one of the members.
-fn is_id_once(s: &[u8], m: Members, i: usize) -> bool
-    ensures { λ r. ⌜ r ≡ holds (idRulesIn (now (s .entry)) m i) ⌝ }
+// Nodes judged: whether they are valid, and then the list with their properties put in.
+pub struct Listed {
+    pub valid: bool,
+    pub list: Entries,
+}
+
+fn answered(valid: bool, list: Entries) -> Listed
+    ensures { λ r. ⌜ Puts valid list r ⌝ }
 {
-    if !text::is_id(fields::text_at(s, i)) {
-        return false;
-    }
-    match fields::lookup_in(s, m, fields::text_at(s, i)) {
-        Field::Absent => true,
-        Field::One(_) => true,
-        Field::Twice => false,
+    Listed {
+        valid: valid,
+        list: list,
     }
 }
 
-// Whether one of the members, its name at `i` and its value at `k`, is a valid property.
-fn is_property_member(s: &[u8], m: Members, i: usize, k: usize) -> bool
-    ensures { λ r. ⌜ r ≡ holds (idRulesIn (now (s .entry)) m i ++ propertyRules (now (s .entry)) k) ⌝ }
+// The property of the node whose ID is at `node`: its own ID is at `id`, its value at `k`.
+fn property_member(s: &[u8], node: usize, id: usize, k: usize, ends: &[u16]) -> Judged
+    ensures { λ r. ⌜ (Ends (now (s .entry)) (now (ends .entry)) → Judges (isId (stringBytes (now (s .entry)) id) ∷ propertyRules (now (s .entry)) k) (propertyAt (now (s .entry)) node id k) (now (s .entry)) r) ⌝ }
 {
-    if !is_id_once(s, m, i) {
-        return false;
+    if !text::is_id(fields::string_bytes_by(s, id, ends)) {
+        return properties::refused();
     }
-    properties::is_property(s, k)
-}
-
-// Whether every member of the object at `at` is a valid property.
-fn are_properties(s: &[u8], at: usize) -> bool
-    ensures { λ r. ⌜ r ≡ all (λ m. holds (propertyMember (now (s .entry)) at m)) (members (now (s .entry)) at) ⌝ }
-{
-    if json::peek(s, at) != 123 {
-        return true;
-    }
-    let m = fields::members_of(s, at);
-    let mut i = json::skip(s, at + 1);
-    loop {
-        match json::member_at(s, i) {
-            Item::Done => return true,
-            Item::At(k, _, n) => {
-                if !is_property_member(s, m, i, k) {
-                    return false;
-                }
-                i = n;
-            }
-        }
-    }
-}
-
-fn has_properties(s: &[u8], f: Field) -> bool
-    ensures { λ r. ⌜ r ≡ each (propertyMember (now (s .entry))) (now (s .entry)) f ⌝ }
-{
-    match f {
-        Field::Absent => true,
-        Field::One(k) => are_properties(s, k),
-        Field::Twice => true,
-    }
-}
-
-// Whether the value at `k` is a valid node.
-fn is_node(s: &[u8], k: usize) -> bool
-    ensures { λ r. ⌜ r ≡ holds (nodeRules (now (s .entry)) k) ⌝ }
-{
-    if !fields::is_object(s, k) {
-        return false;
-    }
-    let m = fields::members_of(s, k);
-    if !fields::are_plain(s, m) {
-        return false;
-    }
-    if !fields::has_optional(s, m, b"name", Kind::Text) {
-        return false;
-    }
-    if !fields::has_optional(s, m, b"type", Kind::Text) {
-        return false;
-    }
-    if !fields::has_optional(s, m, b"properties", Kind::Object) {
-        return false;
-    }
-    has_properties(s, fields::lookup_in(s, m, b"properties"))
-}
-
-// Whether one of the members, its name at `i` and its value at `k`, is a valid node.
-fn is_node_member(s: &[u8], m: Members, i: usize, k: usize) -> bool
-    ensures { λ r. ⌜ r ≡ holds (idRulesIn (now (s .entry)) m i ++ nodeRules (now (s .entry)) k) ⌝ }
-{
-    if !is_id_once(s, m, i) {
-        return false;
-    }
-    is_node(s, k)
-}
-
-// Whether every member of the object at `at` is a valid node.
-fn are_nodes(s: &[u8], at: usize) -> bool
-    ensures { λ r. ⌜ r ≡ all (λ m. holds (nodeMember (now (s .entry)) at m)) (members (now (s .entry)) at) ⌝ }
-{
-    if json::peek(s, at) != 123 {
-        return true;
-    }
-    let m = fields::members_of(s, at);
-    let mut i = json::skip(s, at + 1);
-    loop {
-        match json::member_at(s, i) {
-            Item::Done => return true,
-            Item::At(k, _, n) => {
-                if !is_node_member(s, m, i, k) {
-                    return false;
-                }
-                i = n;
-            }
-        }
-    }
-}
-
-// Whether the nodes in the object that a field holds are valid.
-pub fn has_nodes(s: &[u8], f: Field) -> bool
-    ensures { λ r. ⌜ r ≡ each (nodeMember (now (s .entry))) (now (s .entry)) f ⌝ }
-{
-    match f {
-        Field::Absent => true,
-        Field::One(k) => are_nodes(s, k),
-        Field::Twice => true,
-    }
+    properties::property_at(s, node, id, k, ends)
 }
 
 // The list with the properties in the object at `at`, of the node whose ID is at `node`.
-fn add_properties(s: &[u8], node: usize, at: usize, before: Entries) -> Entries
-    ensures { λ r. ⌜ view (now (s .entry)) r ≡ addProperties (propertiesAmong (now (s .entry)) node (members (now (s .entry)) at)) (view (now (s .entry)) before) ⌝ }
+fn add_properties(s: &[u8], node: usize, at: usize, before: Entries, ends: &[u16]) -> Listed
+    ensures { λ r. ⌜ (Ends (now (s .entry)) (now (ends .entry)) → Lists (all (λ m. holds (propertyMember (now (s .entry)) at m)) (members (now (s .entry)) at)) (addProperties (propertiesAmong (now (s .entry)) node (members (now (s .entry)) at)) (view (now (s .entry)) before)) (now (s .entry)) r) ⌝ }
 {
     let mut l = before;
     if json::peek(s, at) != 123 {
-        return l;
+        return answered(true, l);
+    }
+    if !fields::are_different(s, at, ends) {
+        return answered(false, l);
     }
     let mut i = json::skip(s, at + 1);
     loop {
-        match json::member_at(s, i) {
-            Item::Done => return l,
+        match json::member_by(s, i, ends) {
+            Item::Done => return answered(true, l),
             Item::At(k, _, n) => {
-                l = properties::insert(s, properties::entry_at(s, node, i, k), l);
+                let p = property_member(s, node, i, k, ends);
+                let valid = p.valid;
+                let e = p.entry;
+                if !valid {
+                    return answered(false, l);
+                }
+                l = properties::insert(s, e, l, ends);
                 i = n;
             }
         }
     }
 }
 
-// The list with the properties of the node whose ID is at `i` and whose object is at `k`.
-fn add_node(s: &[u8], i: usize, k: usize, l: Entries) -> Entries
-    ensures { λ r. ⌜ view (now (s .entry)) r ≡ addProperties (propertiesAmong (now (s .entry)) i (membersIn (now (s .entry)) (field (now (s .entry)) k properties))) (view (now (s .entry)) l) ⌝ }
+// The list with the properties in the object that a field holds.
+fn add_field(s: &[u8], node: usize, f: Field, l: Entries, ends: &[u16]) -> Listed
+    ensures { λ r. ⌜ (Ends (now (s .entry)) (now (ends .entry)) → Lists (each (propertyMember (now (s .entry))) (now (s .entry)) f) (addProperties (propertiesAmong (now (s .entry)) node (membersIn (now (s .entry)) f)) (view (now (s .entry)) l)) (now (s .entry)) r) ⌝ }
 {
-    let m = fields::members_of(s, k);
-    match fields::lookup_in(s, m, b"properties") {
-        Field::Absent => l,
-        Field::One(p) => add_properties(s, i, p, l),
-        Field::Twice => l,
+    match f {
+        Field::Absent => answered(true, l),
+        Field::One(p) => add_properties(s, node, p, l, ends),
+        Field::Twice => answered(true, l),
     }
 }
 
-// The list with the properties of the nodes in the object at `at`.
-fn add_nodes(s: &[u8], at: usize, before: Entries) -> Entries
-    ensures { λ r. ⌜ view (now (s .entry)) r ≡ addProperties (propertiesOf (now (s .entry)) (members (now (s .entry)) at)) (view (now (s .entry)) before) ⌝ }
+// Whether the known fields of a node are of their kinds.
+fn has_fields(s: &[u8], seen: &[usize; 32], ends: &[u16]) -> bool
+    ensures { λ r. ⌜ (Ends (now (s .entry)) (now (ends .entry)) → r ≡ holds (fieldRules (now (s .entry)) (now (seen .entry)))) ⌝ }
+{
+    if !fields::is_optional(s, fields::field_at(seen, fields::NAME), Kind::Text, ends) {
+        return false;
+    }
+    if !fields::is_optional(s, fields::field_at(seen, fields::TYPE), Kind::Text, ends) {
+        return false;
+    }
+    fields::is_optional(
+        s,
+        fields::field_at(seen, fields::PROPERTIES),
+        Kind::Object,
+        ends,
+    )
+}
+
+// The list with the properties of the node whose ID is at `i` and whose value is at `k`.
+fn add_node(s: &[u8], i: usize, k: usize, l: Entries, ends: &[u16]) -> Listed
+    ensures { λ r. ⌜ (Ends (now (s .entry)) (now (ends .entry)) → Lists (holds (nodeRules (now (s .entry)) k)) (addProperties (propertiesAmong (now (s .entry)) i (membersIn (now (s .entry)) (field (now (s .entry)) k properties))) (view (now (s .entry)) l)) (now (s .entry)) r) ⌝ }
+{
+    if !fields::is_object(s, k) {
+        return answered(false, l);
+    }
+    let m = fields::known_fields(s, k, ends);
+    let plain = m.plain;
+    let seen = m.seen;
+    if !plain {
+        return answered(false, l);
+    }
+    if !has_fields(s, &seen, ends) {
+        return answered(false, l);
+    }
+    add_field(s, i, fields::field_at(&seen, fields::PROPERTIES), l, ends)
+}
+
+// The same, if the string at `i` is an ID.
+fn add_member(s: &[u8], i: usize, k: usize, l: Entries, ends: &[u16]) -> Listed
+    ensures { λ r. ⌜ (Ends (now (s .entry)) (now (ends .entry)) → Lists (holds (isId (stringBytes (now (s .entry)) i) ∷ nodeRules (now (s .entry)) k)) (addProperties (propertiesAmong (now (s .entry)) i (membersIn (now (s .entry)) (field (now (s .entry)) k properties))) (view (now (s .entry)) l)) (now (s .entry)) r) ⌝ }
+{
+    if !text::is_id(fields::string_bytes_by(s, i, ends)) {
+        return answered(false, l);
+    }
+    add_node(s, i, k, l, ends)
+}
+
+// The list with the properties of the nodes in the object at `nodes`.
+fn add_nodes(s: &[u8], nodes: usize, before: Entries, ends: &[u16]) -> Listed
+    ensures { λ r. ⌜ (Ends (now (s .entry)) (now (ends .entry)) → Lists (all (λ m. holds (nodeMember (now (s .entry)) nodes m)) (members (now (s .entry)) nodes)) (addProperties (propertiesOf (now (s .entry)) (members (now (s .entry)) nodes)) (view (now (s .entry)) before)) (now (s .entry)) r) ⌝ }
 {
     let mut l = before;
-    if json::peek(s, at) != 123 {
-        return l;
+    if json::peek(s, nodes) != 123 {
+        return answered(true, l);
     }
-    let mut i = json::skip(s, at + 1);
+    if !fields::are_different(s, nodes, ends) {
+        return answered(false, l);
+    }
+    let mut i = json::skip(s, nodes + 1);
     loop {
-        match json::member_at(s, i) {
-            Item::Done => return l,
+        match json::member_by(s, i, ends) {
+            Item::Done => return answered(true, l),
             Item::At(k, _, n) => {
-                l = add_node(s, i, k, l);
+                let a = add_member(s, i, k, l, ends);
+                let valid = a.valid;
+                l = a.list;
+                if !valid {
+                    return answered(false, l);
+                }
                 i = n;
             }
         }
     }
 }
 
-// The properties of the nodes in the object that a field holds, in their order.
-pub fn properties_in(s: &[u8], f: Field) -> Entries
-    ensures { λ r. ⌜ view (now (s .entry)) r ≡ collected (propertiesOf (now (s .entry)) (membersIn (now (s .entry)) f)) ⌝ }
+// The nodes in the object that a field holds, with their properties in order.
+pub fn nodes_in(s: &[u8], f: Field, ends: &[u16]) -> Listed
+    ensures { λ r. ⌜ (Ends (now (s .entry)) (now (ends .entry)) → Lists (each (nodeMember (now (s .entry))) (now (s .entry)) f) (collected (propertiesOf (now (s .entry)) (membersIn (now (s .entry)) f))) (now (s .entry)) r) ⌝ }
 {
     let l = properties::empty();
     match f {
-        Field::Absent => l,
-        Field::One(k) => add_nodes(s, k, l),
-        Field::Twice => l,
+        Field::Absent => answered(true, l),
+        Field::One(k) => add_nodes(s, k, l, ends),
+        Field::Twice => answered(true, l),
     }
 }

@@ -12,35 +12,43 @@ use lib.Dec.{leb, ltb}
 use lib.Seq.{drop-cons, take-suc, take-suc-set, drop-set-lt, append-snoc}
 use borrow.Author.Tests.{lt-ltb, le-ltb, leb-true, leb-false}
 use Rattle.text.specs.Bytes.{eqBytes, lessBytes}
-use Rattle.text.proofs.Bytes.{both, at-most}
+use Rattle.text.proofs.Bytes.{both, at-most, eqBytes-refl}
+use Rattle.text.proofs.Order.{less-irreflexive}
 use Rattle.fields.specs.Values.{stringBytes}
 use Rattle.fields.proofs.Rules.{or-neither}
 use Rattle.properties.specs.declared.Entry.{Entry}
 use Rattle.properties.specs.declared.Entries.{Entries}
 use Rattle.properties.specs.Property.{Property, isBefore, insert}
+use Rattle.properties.specs.Parts.{stands}
 use Rattle.properties.specs.Entries.{content, contents, view, addProperty}
 
 -- ---- the order
 
-module _ (s : List ℕ) (x y : Entry) {a b : List ℕ} (p : a ≡ stringBytes s (x .node)) (q : b ≡ stringBytes s (y .node)) {l : Bool} (e : l ≡ lessBytes a b) where
-  less : l ≡ lessBytes (stringBytes s (x .node)) (stringBytes s (y .node))
-  less = e ∙ rw (p, q)
+module _ (s : List ℕ) (a b c d : ℕ) {node id : List ℕ} (p : node ≡ stringBytes s a) (q : id ≡ stringBytes s b) where
+  -- of one node
+  pub before-own : {u : List ℕ} {r : Bool} → a ≡ c → u ≡ stringBytes s d → r ≡ lessBytes id u → r ≡ stands s a b c d
+  unfolding stands
+  before-own e v z = z ∙ rw (q, v, e, less-irreflexive (stringBytes s c), eqBytes-refl (stringBytes s c))
 
-  pub before-yes : l ≡ true → true ≡ isBefore (content s x) (content s y)
-  unfolding isBefore content
-  before-yes h = rw (sym less ∙ h)
+  module _ {t : List ℕ} (v : t ≡ stringBytes s c) {l : Bool} (e : l ≡ lessBytes node t) where
+    less : l ≡ lessBytes (stringBytes s a) (stringBytes s c)
+    less = e ∙ rw (p, v)
 
-  module _ (h : l ≡ false) {c d : List ℕ} (p₂ : c ≡ stringBytes s (x .node)) (q₂ : d ≡ stringBytes s (y .node)) {m : Bool} (f : m ≡ eqBytes c d) where
-    eq : m ≡ eqBytes (stringBytes s (x .node)) (stringBytes s (y .node))
-    eq = f ∙ rw (p₂, q₂)
+    pub before-yes : l ≡ true → true ≡ stands s a b c d
+    unfolding stands
+    before-yes h = rw (sym less ∙ h)
 
-    pub before-no : m ≡ false → false ≡ isBefore (content s x) (content s y)
-    unfolding isBefore content
-    before-no k = rw (sym less ∙ h, sym eq ∙ k)
+    module _ (h : l ≡ false) {m : Bool} (f : m ≡ eqBytes node t) where
+      eq : m ≡ eqBytes (stringBytes s a) (stringBytes s c)
+      eq = f ∙ rw (p, v)
 
-    pub before-ids : {t u : List ℕ} {r : Bool} → m ≡ true → t ≡ stringBytes s (x .id) → u ≡ stringBytes s (y .id) → r ≡ lessBytes t u → r ≡ isBefore (content s x) (content s y)
-    unfolding isBefore content
-    before-ids k v w z = z ∙ rw (sym less ∙ h, sym eq ∙ k, v, w)
+      pub before-no : m ≡ false → false ≡ stands s a b c d
+      unfolding stands
+      before-no k = rw (sym less ∙ h, sym eq ∙ k)
+
+      pub before-ids : {u : List ℕ} {r : Bool} → m ≡ true → u ≡ stringBytes s d → r ≡ lessBytes id u → r ≡ stands s a b c d
+      unfolding stands
+      before-ids k w z = z ∙ rw (sym less ∙ h, sym eq ∙ k, q, w)
 
 -- ---- the insertion: the entries before j are in place, the carried one goes in among the rest
 
@@ -49,11 +57,12 @@ unfoldable pub rest : List ℕ → Bool → Entry → List Entry → List Proper
 rest s true e l = content s e ∷ contents s l
 rest s false e l = insert (content s e) (contents s l)
 
-pub record Carrying (s : List ℕ) (n : ℕ) (want : List Property) (items : List Entry) (carry : Entry) (placed : Bool) (j : ℕ) : Type 0 where
+pub record Carrying (given : Type 0) (s : List ℕ) (n : ℕ) (e : Entry) (want : List Property) (items : List Entry) (carry : Entry) (placed : Bool) (j : ℕ) : Type 0 where
   pub small : j ≤ n
   pub room : n < 24
   pub long : length items ≡ 24
-  pub same : contents s (take j items) ++ rest s placed carry (take (n - j) (drop j items)) ≡ want
+  pub own : given → placed ≡ false → carry ≡ e
+  pub same : given → contents s (take j items) ++ rest s placed carry (take (n - j) (drop j items)) ≡ want
 
 pub contents-append : (s : List ℕ) (l m : List Entry) → contents s (l ++ m) ≡ contents s l ++ contents s m
 unfolding contents
@@ -65,11 +74,11 @@ unfolding contents
 contents-length s [] = refl
 contents-length s (e ∷ l) = ap suc (contents-length s l)
 
-pub carry-start : (s : List ℕ) (n : ℕ) (items : List Entry) (e : Entry) → n < 24 → length items ≡ 24 → Carrying s n (insert (content s e) (contents s (take n items))) items e false 0
+pub carry-start : {given : Type 0} (s : List ℕ) (n : ℕ) (items : List Entry) (e : Entry) → n < 24 → length items ≡ 24 → Carrying given s n e (insert (content s e) (contents s (take n items))) items e false 0
 unfolding rest contents
-carry-start s n items e h l = record { small = omega arith; room = h; long = l; same = ap (λ (k : ℕ). insert (content s e) (contents s (take k items))) (sub-zero n) }
+carry-start s n items e h l = record { small = omega arith; room = h; long = l; own = λ g z. refl; same = λ g. ap (λ (k : ℕ). insert (content s e) (contents s (take k items))) (sub-zero n) }
 
-module _ (blank : Entry) (s : List ℕ) (n : ℕ) (want : List Property) (items : List Entry) (carry : Entry) (placed : Bool) (j : ℕ) (w : Carrying s n want items carry placed j) where
+module _ {given : Type 0} (blank : Entry) (s : List ℕ) (n : ℕ) (e : Entry) (want : List Property) (items : List Entry) (carry : Entry) (placed : Bool) (j : ℕ) (w : Carrying given s n e want items carry placed j) where
   module _ (h : j < n) where
     -- the rest begins with the element at j
     next : take (n - j) (drop j items) ≡ getD items j blank ∷ take (n - (j + 1)) (drop (j + 1) items)
@@ -94,7 +103,14 @@ module _ (blank : Entry) (s : List ℕ) (n : ℕ) (want : List Property) (items 
           go true e = absurd (true≢false e)
           go false e = (refl, rw (e, insert))
 
-      pub carry-swap : b ≡ true → Carrying s n want (set items j carry) (getD items j blank) b (j + 1)
+    -- if the test is right
+    module _ {b : Bool} (x : given → b ≡ (placed || stands s (e .node) (e .id) (getD items j blank .node) (getD items j blank .id))) where
+      -- an entry that is not in its place is the one that was given
+      p : given → b ≡ (placed || isBefore (content s carry) (content s (getD items j blank)))
+      unfolding stands isBefore content
+      p g = x g ∙ both placed (λ z. rw z) (λ z. rw (w .own g z))
+
+      pub carry-swap : b ≡ true → Carrying given s n e want (set items j carry) (getD items j blank) b (j + 1)
       unfolding rest contents
       carry-swap q =
           let l : j < length items = omega (arith, w .long, w .room) in
@@ -102,14 +118,15 @@ module _ (blank : Entry) (s : List ℕ) (n : ℕ) (want : List Property) (items 
             small = omega arith;
             room = w .room;
             long = length-set items j carry ∙ w .long;
-            same =
+            own = λ g z. absurd (true≢false (sym q ∙ z));
+            same = λ g.
                 ap (λ (t : Bool). contents s (take (j + 1) (set items j carry)) ++ rest s t (getD items j blank) (take (n - (j + 1)) (drop (j + 1) (set items j carry)))) q
                 ∙ ap (λ (k : ℕ). contents s (take k (set items j carry)) ++ (content s (getD items j blank) ∷ contents s (take (n - (j + 1)) (drop k (set items j carry))))) (add-one j)
                 ∙ rw (take-suc-set items j carry l, drop-set-lt (suc j) items j carry (omega arith), contents-append s (take j items) (carry ∷ []), append-snoc)
-                (sym (ap (λ (r : List Property). contents s (take j items) ++ r) (here q ∙ rw (add-one j))) ∙ w .same);
+                (sym (ap (λ (r : List Property). contents s (take j items) ++ r) (here (p g) q ∙ rw (add-one j))) ∙ w .same g);
           }
 
-      pub carry-keep : b ≡ false → Carrying s n want items carry b (j + 1)
+      pub carry-keep : b ≡ false → Carrying given s n e want items carry b (j + 1)
       unfolding rest contents
       carry-keep q =
           let l : j < length items = omega (arith, w .long, w .room) in
@@ -117,20 +134,21 @@ module _ (blank : Entry) (s : List ℕ) (n : ℕ) (want : List Property) (items 
             small = omega arith;
             room = w .room;
             long = w .long;
-            same =
+            own = λ g z. w .own g (past (p g) q .0);
+            same = λ g.
                 ap (λ (t : Bool). contents s (take (j + 1) items) ++ rest s t carry (take (n - (j + 1)) (drop (j + 1) items))) q
                 ∙ ap (λ (k : ℕ). contents s (take k items) ++ rest s false carry (take (n - (j + 1)) (drop (j + 1) items))) (add-one j)
                 ∙ rw (take-suc items j blank l, contents-append s (take j items) (getD items j blank ∷ []), append-snoc)
-                (sym (ap (λ (r : List Property). contents s (take j items) ++ r) (past q .1)) ∙ w .same);
+                (sym (ap (λ (r : List Property). contents s (take j items) ++ r) (past (p g) q .1)) ∙ w .same g);
           }
 
-  pub carry-done : n ≤ j → contents s (take (n + 1) (set items n carry)) ≡ want
+  pub carry-done : n ≤ j → given → contents s (take (n + 1) (set items n carry)) ≡ want
   unfolding rest contents insert
-  carry-done h =
+  carry-done h g =
       let e : j ≡ n = omega (arith, w .small) in
       let z : n - n ≡ 0 = omega arith in
       rw (add-one n, take-suc-set items n carry (omega (arith, w .long, w .room)), contents-append s (take n items) (carry ∷ []))
-      (sym (ap (λ (k : ℕ). contents s (take n items) ++ rest s placed carry (take k (drop n items))) z ∙ ap (λ (r : List Property). contents s (take n items) ++ r) (last placed)) ∙ ap (λ (k : ℕ). contents s (take k items) ++ rest s placed carry (take (n - k) (drop k items))) (sym e) ∙ w .same)
+      (sym (ap (λ (k : ℕ). contents s (take n items) ++ rest s placed carry (take k (drop n items))) z ∙ ap (λ (r : List Property). contents s (take n items) ++ r) (last placed)) ∙ ap (λ (k : ℕ). contents s (take k items) ++ rest s placed carry (take (n - k) (drop k items))) (sym e) ∙ w .same g)
     where
       last : (t : Bool) → rest s t carry [] ≡ content s carry ∷ []
       last true = refl
@@ -201,10 +219,10 @@ module _ (s : List ℕ) (e : Entry) (l r : Entries) (k : length (l .items) ≡ 2
       (λ m. sym (rw (view-some s l o m, addProperty) (rw (contents-length s (take (l .n) (l .items)), le-ltb (length (take (l .n) (l .items))) 24 (simp length-take (omega (arith, k)))))))
       (λ m. sym (rw (view-many s l m, addProperty))))
 
-  pub put-some : {items : List Entry} {carry : Entry} {placed : Bool} {j : ℕ} (blank : Entry) → l .over ≡ false → Carrying s (l .n) (insert (content s e) (contents s (take (l .n) (l .items)))) items carry placed j → l .n ≤ j
+  pub put-some : {given : Type 0} {items : List Entry} {carry : Entry} {placed : Bool} {j : ℕ} (blank : Entry) → l .over ≡ false → Carrying given s (l .n) e (insert (content s e) (contents s (take (l .n) (l .items)))) items carry placed j → given → l .n ≤ j
       → r .over ≡ false → r .n ≡ l .n + 1 → r .items ≡ set items (l .n) carry → view s r ≡ addProperty (content s e) (view s l)
   unfolding addProperty
-  put-some {items} {carry} {placed} {j} blank o w h b c d =
-      let x : contents s (take (r .n) (r .items)) ≡ insert (content s e) (contents s (take (l .n) (l .items))) = rw (c, d) (carry-done blank s (l .n) (insert (content s e) (contents s (take (l .n) (l .items)))) items carry placed j w h) in
+  put-some {given} {items} {carry} {placed} {j} blank o w g h b c d =
+      let x : contents s (take (r .n) (r .items)) ≡ insert (content s e) (contents s (take (l .n) (l .items))) = rw (c, d) (carry-done blank s (l .n) e (insert (content s e) (contents s (take (l .n) (l .items)))) items carry placed j w h g) in
       view-some s r b (omega (arith, c, w .room)) ∙ ap some x
       ∙ sym (rw (view-some s l o (omega (arith, w .room)), addProperty) (rw (contents-length s (take (l .n) (l .items)), lt-ltb (length (take (l .n) (l .items))) 24 (simp length-take (omega (arith, k, w .room))))))

@@ -1,15 +1,14 @@
 -- What each way through the code shows of a property's rules, and of what it declares.
-use Prim.Native.Nat.{ℕ}
+use Prim.Native.Nat.{ℕ, _<_}
+use native.Mathlib.Omega.{arith}
 use mathlib.Core.Path.{_≡_, refl, sym, ap, _∙_}
 use mathlib.Core.List.{List, [], _∷_}
-use mathlib.Core.Bool.{Bool, true, false, _&&_}
+use mathlib.Core.Bool.{Bool, true, false, _&&_, true≢false}
 use mathlib.Core.Option.{Option, none, some}
-use Rattle.fields.specs.Values.{stringBytes, isStringAt, isObject, isPlain, members}
-use Rattle.fields.specs.Fields.{pairs, field, holds, optional, textIn, flagIn, plainIn}
-use Rattle.fields.specs.Members.{pairsOf, fieldOf}
-use Rattle.fields.specs.declared.Members.{Members}
-use Rattle.fields.specs.declared.Kind.the-variants.{Text, Flag}
-use Rattle.fields.proofs.Table.{field-of, plain-of}
+use Rattle.fields.specs.Values.{stringBytes, isStringAt, isObject, isPlain}
+use Rattle.fields.specs.Fields.{field, holds, textIn, flagIn, plainNames}
+use Rattle.fields.specs.Known.{knownName, fieldAt, Knows}
+use Rattle.fields.specs.declared.Known as fields
 use Rattle.fields.specs.declared.Field.{Field}
 use Rattle.fields.specs.declared.Field.the-variants.{Absent, One, Twice}
 use Rattle.payload.specs.Datatypes.{named, datatypeNamed}
@@ -23,7 +22,9 @@ use Rattle.payload.specs.declared.Format.the-variants.{Bad, AsGiven, Colon, Fal
 use Rattle.properties.specs.declared.Entry.{Entry}
 use Rattle.properties.specs.Names.{datatype, name, unit, format, settable, retained}
 use Rattle.properties.specs.Property.{datatypeIn, isKnown, plainText, formatFits, propertyRules, Property, typeOf, textOf, propertyAt}
-use Rattle.properties.specs.Parts.{isOne}
+use Rattle.properties.specs.Parts.{isOne, textRules, flagRules, otherRules, propertyOf}
+use Rattle.properties.specs.Judged.{Judges}
+use Rattle.properties.specs.declared.Judged.{Judged}
 use Rattle.properties.specs.Entries.{content}
 
 -- ---- the datatype that a field names
@@ -110,65 +111,72 @@ asks s Absent = refl
 asks s (One k) = refl
 asks s Twice = refl
 
-pub kept-is : (s : List ℕ) (d : Datatype) (f : Field) {b : Bool} {t : List ℕ} (r : Format) → b ≡ isOne f → t ≡ textOf (textIn s f) → keptBytes t r ≡ keptFormat d (givenFormat b t)
-    → keptBytes (textOf (textIn s f)) r ≡ keptFormat d (textIn s f)
-kept-is s d f {b} {t} r p q x = ap (λ (u : List ℕ). keptBytes u r) (sym q) ∙ x ∙ ap (keptFormat d) (rw (p, q) (asks s f))
-
-pub fits-is : (s : List ℕ) (d : Datatype) (f : Field) {t : List ℕ} (k : Format) {r : Bool} → t ≡ textOf (textIn s f) → keptBytes (textOf (textIn s f)) k ≡ keptFormat d (textIn s f) → r ≡ plainText (keptBytes t k)
-    → r ≡ formatFits (some d) (textIn s f)
-unfolding formatFits
-fits-is s d f k p x z = z ∙ ap (λ (u : List ℕ). plainText (keptBytes u k)) p ∙ ap plainText x
-
 -- by the datatype's case
 module _ {o : Option Datatype} where
   pub named-no : o ≡ none → false ≡ isKnown o
   unfolding isKnown
   named-no q = rw q
 
-  pub named-yes : {d : Datatype} → o ≡ some d → true ≡ isKnown o
-  unfolding isKnown
-  named-yes q = rw q
+-- ---- the whole property
 
-  pub fit-none : (g : Option (List ℕ)) → o ≡ none → true ≡ formatFits o g
-  unfolding formatFits
-  fit-none g q = rw q
+module _ (rules : List Bool) (want : Property) (s : List ℕ) (j : Judged) where
+  pub judge-no : j .valid ≡ false → false ≡ holds rules → Judges rules want s j
+  judge-no e p = record { valid = e ∙ p; declares = λ t. absurd (true≢false (sym t ∙ e)) }
 
-  pub fit-some : (s : List ℕ) {d : Datatype} {f g : Field} {r : Bool} → o ≡ some d → f ≡ g → r ≡ formatFits (some d) (textIn s f) → r ≡ formatFits o (textIn s g)
-  fit-some s q e x = x ∙ rw (e, q)
+  pub judge-yes : j .valid ≡ true → true ≡ holds rules → content s (j .entry) ≡ want → Judges rules want s j
+  judge-yes e p q = record { valid = e ∙ p; declares = λ t. q }
 
--- ---- the rules, read in the table of the property's members
+-- the format, kept
+pub kept-is : (s : List ℕ) (d : Datatype) (f : Field) {b : Bool} {t : List ℕ} (r : Format) → b ≡ isOne f → t ≡ textOf (textIn s f) → keptBytes t r ≡ keptFormat d (givenFormat b t)
+    → keptBytes (textOf (textIn s f)) r ≡ keptFormat d (textIn s f)
+kept-is s d f {b} {t} r p q x = ap (λ (u : List ℕ). keptBytes u r) (sym q) ∙ x ∙ ap (keptFormat d) (rw (p, q) (asks s f))
 
-unfoldable pub rulesIn : List ℕ → ℕ → Members → List Bool
-rulesIn s k m =
-    isObject s k ∷
-    plainIn (pairsOf s m) ∷
-    isKnown (datatypeIn s (fieldOf s m datatype)) ∷
-    optional Text s (fieldOf s m name) ∷
-    optional Text s (fieldOf s m unit) ∷
-    optional Text s (fieldOf s m format) ∷
-    formatFits (datatypeIn s (fieldOf s m datatype)) (textIn s (fieldOf s m format)) ∷
-    optional Flag s (fieldOf s m settable) ∷
-    optional Flag s (fieldOf s m retained) ∷ []
+pub fits-is : (s : List ℕ) (d : Datatype) {f g : Field} {t : List ℕ} (k : Format) {r : Bool} → f ≡ g → t ≡ textOf (textIn s f) → keptBytes (textOf (textIn s f)) k ≡ keptFormat d (textIn s f) → r ≡ plainText (keptBytes t k)
+    → r ≡ formatFits (some d) (textIn s g)
+unfolding formatFits
+fits-is s d {f} k e p x z = z ∙ ap (λ (u : List ℕ). plainText (keptBytes u k)) p ∙ ap plainText x ∙ ap (λ (h : Field). plainText (keptFormat d (textIn s h))) e
 
-pub by-table : (s : List ℕ) (k : ℕ) (m : Members) {r : Bool} → pairsOf s m ≡ pairs s (members s k) → r ≡ holds (rulesIn s k m) → r ≡ holds (propertyRules s k)
-unfolding rulesIn propertyRules
-by-table s k m h x = x ∙ rw (plain-of s k m h, field-of s k m h datatype, field-of s k m h name, field-of s k m h unit, field-of s k m h format, field-of s k m h settable, field-of s k m h retained)
+module _ (s : List ℕ) (node id : ℕ) (seen : List ℕ) (d : Datatype) {f : Field} (p : f ≡ fieldAt seen 7) {a b : Bool} (q : a ≡ flagIn s false (fieldAt seen 10)) (u : b ≡ flagIn s true (fieldAt seen 11)) where
+  pub declares : (r : Format) → keptBytes (textOf (textIn s f)) r ≡ keptFormat d (textIn s f)
+      → content s (record { node = node; id = id; datatype = d; format = f; kept = r; settable = a; retained = b }) ≡ propertyOf s node id seen d
+  unfolding content propertyOf
+  declares r x = rw (x, q, u, p)
 
--- ---- what a property declares
+-- the same rules, and the same property
+same-rules : (s : List ℕ) (k : ℕ) (seen : List ℕ) (d : Datatype) → isObject s k ≡ true → plainNames s k ≡ true → datatypeIn s (field s k datatype) ≡ some d → ((c : ℕ) → c < 15 → fieldAt seen c ≡ field s k (knownName c))
+    → holds (otherRules s seen d) ≡ holds (propertyRules s k)
+unfolding otherRules textRules flagRules propertyRules holds isKnown knownName
+same-rules s k seen d o p y f = rw (f 0 (omega arith), f 2 (omega arith), f 7 (omega arith), f 10 (omega arith), f 11 (omega arith), o, p, y)
 
-pub typed-no : {o : Option Datatype} → o ≡ none → String ≡ typeOf o
-unfolding typeOf
-typed-no q = sym (ap typeOf q)
+same-property : (s : List ℕ) (node id k : ℕ) (seen : List ℕ) (d : Datatype) → datatypeIn s (field s k datatype) ≡ some d → ((c : ℕ) → c < 15 → fieldAt seen c ≡ field s k (knownName c))
+    → propertyOf s node id seen d ≡ propertyAt s node id k
+unfolding propertyOf propertyAt typeOf knownName
+same-property s node id k seen d y f = rw (f 7 (omega arith), f 10 (omega arith), f 11 (omega arith), y)
 
-pub typed : {o : Option Datatype} {d : Datatype} → o ≡ some d → d ≡ typeOf o
-unfolding typeOf
-typed q = sym (ap typeOf q)
+-- by what was seen of the known fields
+module _ (s : List ℕ) (node id k : ℕ) (m : fields.Known) (w : Knows s k m) (p : m .plain ≡ true) where
+  sees : (c : ℕ) → c < 15 → fieldAt (m .seen) c ≡ field s k (knownName c)
+  sees = w .fields p
 
-pub type-as : (s : List ℕ) {d : Datatype} {f g : Field} → d ≡ typeOf (datatypeIn s f) → f ≡ g → d ≡ typeOf (datatypeIn s g)
-type-as s p e = p ∙ ap (λ (f : Field). typeOf (datatypeIn s f)) e
+  is-plain : plainNames s k ≡ true
+  is-plain = sym (w .plain) ∙ p
 
-module _ (s : List ℕ) (node id k : ℕ) {f : Field} (p : f ≡ field s k format) {a b : Bool} (q : a ≡ flagIn s false (field s k settable)) (u : b ≡ flagIn s true (field s k retained)) where
-  pub declares : (d : Datatype) (r : Format) → d ≡ typeOf (datatypeIn s (field s k datatype)) → keptBytes (textOf (textIn s f)) r ≡ keptFormat d (textIn s f)
-      → content s (record { node = node; id = id; datatype = d; format = f; kept = r; settable = a; retained = b }) ≡ propertyAt s node id k
-  unfolding content propertyAt
-  declares d r e x = rw (x, q, u, e, p)
+  sees-datatype : fieldAt (m .seen) 9 ≡ field s k datatype
+  unfolding knownName
+  sees-datatype = sees 9 (omega arith)
+
+  module _ {b : Bool} (o : b ≡ isObject s k) (t : b ≡ true) {f : Field} (q : f ≡ fieldAt (m .seen) 9) (r : Named) (x : named r ≡ datatypeIn s f) where
+    pub unknown : r ≡ Unknown → false ≡ holds (propertyRules s k)
+    unfolding propertyRules holds isKnown
+    unknown e = sym (rw (sym o ∙ t, is-plain, type-none s (q ∙ sees-datatype) r x e))
+
+    pub judged : {d : Datatype} → r ≡ Known d → (j : Judged) → Judges (otherRules s (m .seen) d) (propertyOf s node id (m .seen) d) s j → Judges (propertyRules s k) (propertyAt s node id k) s j
+    judged {d} e j v =
+        let y = type-some s (q ∙ sees-datatype) r x e in
+        record { valid = v .valid ∙ rules y; declares = λ z. v .declares z ∙ property y }
+      where
+        rules : datatypeIn s (field s k datatype) ≡ some d → holds (otherRules s (m .seen) d) ≡ holds (propertyRules s k)
+        rules y = same-rules s k (m .seen) d (sym o ∙ t) is-plain y sees
+
+        property : datatypeIn s (field s k datatype) ≡ some d → propertyOf s node id (m .seen) d ≡ propertyAt s node id k
+        property y = same-property s node id k (m .seen) d y sees

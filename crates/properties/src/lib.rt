@@ -1,23 +1,23 @@
-// The properties that a description declares, in the order of node ID and property ID.
+// The properties that a description declares, in the order of node ID and property ID. Answers are right if the table of ends is.
 use fields::Field;
 use fields::Kind;
-use fields::Members;
 use payload::Datatype;
 use payload::Format;
 use payload::Named;
 ghost use mathlib.Core.Path.{_≡_};
-ghost use mathlib.Core.Bool.{_||_};
+ghost use mathlib.Core.Bool.{_||_, false};
 ghost use mathlib.Core.List.{List, []};
 ghost use Prim.Native.Nat.{ℕ};
 ghost use lib.Dec.{leb};
 ghost use mathlib.Core.Option.{some};
 ghost use Rattle.payload.specs.Datatypes.{named};
-ghost use Rattle.payload.specs.Formats.{keptFormat, keptBytes};
+ghost use Rattle.payload.specs.Formats.{keptBytes};
 ghost use Rattle.fields.specs.Fields.{textIn, holds};
-ghost use Rattle.fields.specs.Members.{fieldOf};
-ghost use Rattle.properties.specs.Names.{datatype, format};
-ghost use Rattle.properties.specs.Property.{isBefore, datatypeIn, isKnown, plainText, formatFits, propertyRules, typeOf, textOf, propertyAt};
-ghost use Rattle.properties.specs.Parts.{isOne};
+ghost use Rattle.json.specs.Ends.{Ends};
+ghost use Rattle.fields.specs.Values.{stringBytes};
+ghost use Rattle.properties.specs.Property.{datatypeIn, plainText, textOf, propertyRules, propertyAt};
+ghost use Rattle.properties.specs.Parts.{stands, isOne, textRules, flagRules, otherRules, propertyOf};
+ghost use Rattle.properties.specs.Judged.{Judges};
 ghost use Rattle.properties.specs.Entries.{content, view, addProperty};
 
 // A property: the places of its node's ID and its own, strings in the text, and what it declares.
@@ -38,26 +38,46 @@ pub struct Entries {
     pub items: [Entry; 24],
 }
 
-fn is_before(s: &[u8], x: Entry, y: Entry) -> bool
-    ensures { λ r. ⌜ r ≡ isBefore (content (now (s .entry)) x) (content (now (s .entry)) y) ⌝ }
+// A property's object judged: whether it is valid, and then what it declares.
+pub struct Judged {
+    pub valid: bool,
+    pub entry: Entry,
+}
+
+// Whether the property with these two IDs, the first at `a`, stands before the one whose IDs are at `c` and `d`.
+fn is_before(s: &[u8], a: usize, node: &[u8], id: &[u8], c: usize, d: usize, ends: &[u16]) -> bool
+    ensures { λ r. ⌜ ((b : ℕ) → now (node .entry) ≡ stringBytes (now (s .entry)) a → now (id .entry) ≡ stringBytes (now (s .entry)) b → Ends (now (s .entry)) (now (ends .entry)) → r ≡ stands (now (s .entry)) a b c d) ⌝ }
 {
-    if text::precedes(fields::text_at(s, x.node), fields::text_at(s, y.node)) {
+    if a == c {
+        return text::precedes(id, fields::string_bytes_by(s, d, ends));
+    }
+    let other = fields::string_bytes_by(s, c, ends);
+    if text::precedes(node, other) {
         return true;
     }
-    if text::same(fields::text_at(s, x.node), fields::text_at(s, y.node)) {
-        return text::precedes(fields::text_at(s, x.id), fields::text_at(s, y.id));
+    if text::same(node, other) {
+        return text::precedes(id, fields::string_bytes_by(s, d, ends));
     }
     false
 }
 
-// Whether `e` goes before `x`, or is in its place already.
-fn takes_place(s: &[u8], placed: bool, e: Entry, x: Entry) -> bool
-    ensures { λ r. ⌜ r ≡ (placed || isBefore (content (now (s .entry)) e) (content (now (s .entry)) x)) ⌝ }
+// Whether it does, or is in its place already.
+fn takes_place(
+    s: &[u8],
+    placed: bool,
+    a: usize,
+    node: &[u8],
+    id: &[u8],
+    c: usize,
+    d: usize,
+    ends: &[u16],
+) -> bool
+    ensures { λ r. ⌜ ((b : ℕ) → now (node .entry) ≡ stringBytes (now (s .entry)) a → now (id .entry) ≡ stringBytes (now (s .entry)) b → Ends (now (s .entry)) (now (ends .entry)) → r ≡ (placed || stands (now (s .entry)) a b c d)) ⌝ }
 {
     if placed {
         return true;
     }
-    is_before(s, e, x)
+    is_before(s, a, node, id, c, d, ends)
 }
 
 // The list of no properties.
@@ -90,8 +110,8 @@ fn is_full(over: bool, n: usize) -> bool
 }
 
 // The list with one more, in its place.
-pub fn insert(s: &[u8], e: Entry, l: Entries) -> Entries
-    ensures { λ r. ⌜ view (now (s .entry)) r ≡ addProperty (content (now (s .entry)) e) (view (now (s .entry)) l) ⌝ }
+pub fn insert(s: &[u8], e: Entry, l: Entries, ends: &[u16]) -> Entries
+    ensures { λ r. ⌜ (Ends (now (s .entry)) (now (ends .entry)) → view (now (s .entry)) r ≡ addProperty (content (now (s .entry)) e) (view (now (s .entry)) l)) ⌝ }
 {
     let over = l.over;
     let n = l.n;
@@ -103,15 +123,18 @@ pub fn insert(s: &[u8], e: Entry, l: Entries) -> Entries
             items: items,
         };
     }
+    let node = fields::string_bytes_by(s, e.node, ends);
+    let id = fields::string_bytes_by(s, e.id, ends);
     let mut carry = e;
     let mut placed = false;
     let mut j = 0;
     while j < n {
-        let x = items[j];
+        let y = items[j];
         let i = j;
         j += 1;
-        placed = takes_place(s, placed, carry, x);
+        placed = takes_place(s, placed, e.node, node, id, y.node, y.id, ends);
         if placed {
+            let x = items[i];
             items[i] = carry;
             carry = x;
         }
@@ -125,14 +148,14 @@ pub fn insert(s: &[u8], e: Entry, l: Entries) -> Entries
 }
 
 // The datatype that a field names.
-fn datatype_in(s: &[u8], f: Field) -> Named
-    ensures { λ r. ⌜ named r ≡ datatypeIn (now (s .entry)) f ⌝ }
+fn datatype_in(s: &[u8], f: Field, ends: &[u16]) -> Named
+    ensures { λ r. ⌜ (Ends (now (s .entry)) (now (ends .entry)) → named r ≡ datatypeIn (now (s .entry)) f) ⌝ }
 {
     match f {
         Field::Absent => Named::Unknown,
         Field::One(k) => {
-            if fields::is_text(s, k) {
-                return payload::read_datatype(fields::text_at(s, k));
+            if fields::is_string(s, k) {
+                return payload::read_datatype(fields::string_bytes_by(s, k, ends));
             }
             Named::Unknown
         }
@@ -154,12 +177,12 @@ fn is_plain_kept(t: &[u8], kept: Format) -> bool
 }
 
 // The format that a field gives, or the empty string.
-fn format_in(s: &[u8], f: Field) -> &[u8]
-    ensures { λ r. ⌜ now r ≡ textOf (textIn (now (s .entry)) f) ⌝ }
+fn format_in<'a>(s: &'a [u8], f: Field, ends: &[u16]) -> &'a [u8]
+    ensures { λ r. ⌜ (Ends (now (s .entry)) (now (ends .entry)) → now r ≡ textOf (textIn (now (s .entry)) f)) ⌝ }
 {
     match f {
         Field::Absent => &s[..0],
-        Field::One(k) => fields::text_at(s, k),
+        Field::One(k) => fields::string_bytes_by(s, k, ends),
         Field::Twice => &s[..0],
     }
 }
@@ -174,93 +197,77 @@ fn is_one(f: Field) -> bool
     }
 }
 
-// What is kept of the format that a field gives, or where it gives none.
-fn kept_format(s: &[u8], d: Datatype, f: Field) -> Format
-    ensures { λ r. ⌜ keptBytes (textOf (textIn (now (s .entry)) f)) r ≡ keptFormat d (textIn (now (s .entry)) f) ⌝ }
+// A property that breaks a rule.
+pub fn refused() -> Judged
+    ensures { λ r. ⌜ r .valid ≡ false ⌝ }
 {
-    payload::judge_format(d, is_one(f), format_in(s, f))
-}
-
-// Whether a format, given or not, fits its datatype.
-fn format_fits(s: &[u8], d: Datatype, f: Field) -> bool
-    ensures { λ r. ⌜ r ≡ formatFits (some d) (textIn (now (s .entry)) f) ⌝ }
-{
-    is_plain_kept(format_in(s, f), kept_format(s, d, f))
-}
-
-// Whether the property with these members names a datatype.
-fn has_datatype(s: &[u8], m: Members) -> bool
-    ensures { λ r. ⌜ r ≡ isKnown (datatypeIn (now (s .entry)) (fieldOf (now (s .entry)) m datatype)) ⌝ }
-{
-    match datatype_in(s, fields::lookup_in(s, m, b"datatype")) {
-        Named::Unknown => false,
-        Named::Known(_) => true,
+    let e = Entry {
+        node: 0,
+        id: 0,
+        datatype: Datatype::String,
+        format: Field::Absent,
+        kept: Format::NotKept,
+        settable: false,
+        retained: false,
+    };
+    Judged {
+        valid: false,
+        entry: e,
     }
 }
 
-// The datatype of the property with these members.
-fn datatype_at(s: &[u8], m: Members) -> Datatype
-    ensures { λ r. ⌜ r ≡ typeOf (datatypeIn (now (s .entry)) (fieldOf (now (s .entry)) m datatype)) ⌝ }
+// Whether the fields that are strings are so.
+fn has_texts(s: &[u8], seen: &[usize; 32], ends: &[u16]) -> bool
+    ensures { λ r. ⌜ (Ends (now (s .entry)) (now (ends .entry)) → r ≡ holds (textRules (now (s .entry)) (now (seen .entry)))) ⌝ }
 {
-    match datatype_in(s, fields::lookup_in(s, m, b"datatype")) {
-        Named::Unknown => Datatype::String,
-        Named::Known(d) => d,
+    if !fields::is_optional(s, fields::field_at(seen, fields::NAME), Kind::Text, ends) {
+        return false;
     }
+    if !fields::is_optional(s, fields::field_at(seen, fields::UNIT), Kind::Text, ends) {
+        return false;
+    }
+    fields::is_optional(s, fields::field_at(seen, fields::FORMAT), Kind::Text, ends)
 }
 
-// Whether the format of the property with these members fits its datatype.
-fn has_format(s: &[u8], m: Members) -> bool
-    ensures { λ r. ⌜ r ≡ formatFits (datatypeIn (now (s .entry)) (fieldOf (now (s .entry)) m datatype)) (textIn (now (s .entry)) (fieldOf (now (s .entry)) m format)) ⌝ }
+// Whether the fields that are booleans are so.
+fn has_flags(s: &[u8], seen: &[usize; 32], ends: &[u16]) -> bool
+    ensures { λ r. ⌜ (Ends (now (s .entry)) (now (ends .entry)) → r ≡ holds (flagRules (now (s .entry)) (now (seen .entry)))) ⌝ }
 {
-    match datatype_in(s, fields::lookup_in(s, m, b"datatype")) {
-        Named::Unknown => true,
-        Named::Known(d) => format_fits(s, d, fields::lookup_in(s, m, b"format")),
+    if !fields::is_optional(
+        s,
+        fields::field_at(seen, fields::SETTABLE),
+        Kind::Flag,
+        ends,
+    ) {
+        return false;
     }
+    fields::is_optional(
+        s,
+        fields::field_at(seen, fields::RETAINED),
+        Kind::Flag,
+        ends,
+    )
 }
 
-// Whether the value at `k` is a valid property.
-pub fn is_property(s: &[u8], k: usize) -> bool
-    ensures { λ r. ⌜ r ≡ holds (propertyRules (now (s .entry)) k) ⌝ }
+// The property of datatype `d` with these fields, named by the strings at `node` and `id`: the rules of the other fields, and what it declares.
+fn finish(s: &[u8], node: usize, id: usize, d: Datatype, seen: &[usize; 32], ends: &[u16]) -> Judged
+    ensures { λ r. ⌜ (Ends (now (s .entry)) (now (ends .entry)) → Judges (otherRules (now (s .entry)) (now (seen .entry)) d) (propertyOf (now (s .entry)) node id (now (seen .entry)) d) (now (s .entry)) r) ⌝ }
 {
-    if !fields::is_object(s, k) {
-        return false;
+    if !has_texts(s, seen, ends) {
+        return refused();
     }
-    let m = fields::members_of(s, k);
-    if !fields::are_plain(s, m) {
-        return false;
+    let f = fields::field_at(seen, fields::FORMAT);
+    let t = format_in(s, f, ends);
+    let kept = payload::judge_format(d, is_one(f), t);
+    if !is_plain_kept(t, kept) {
+        return refused();
     }
-    if !has_datatype(s, m) {
-        return false;
+    if !has_flags(s, seen, ends) {
+        return refused();
     }
-    if !fields::has_optional(s, m, b"name", Kind::Text) {
-        return false;
-    }
-    if !fields::has_optional(s, m, b"unit", Kind::Text) {
-        return false;
-    }
-    if !fields::has_optional(s, m, b"format", Kind::Text) {
-        return false;
-    }
-    if !has_format(s, m) {
-        return false;
-    }
-    if !fields::has_optional(s, m, b"settable", Kind::Flag) {
-        return false;
-    }
-    fields::has_optional(s, m, b"retained", Kind::Flag)
-}
-
-// The property whose object is at `k`, named by the strings at `node` and `id`.
-pub fn entry_at(s: &[u8], node: usize, id: usize, k: usize) -> Entry
-    ensures { λ r. ⌜ content (now (s .entry)) r ≡ propertyAt (now (s .entry)) node id k ⌝ }
-{
-    let m = fields::members_of(s, k);
-    let d = datatype_at(s, m);
-    let f = fields::lookup_in(s, m, b"format");
-    let kept = kept_format(s, d, f);
-    let settable = fields::flag_in(s, fields::lookup_in(s, m, b"settable"), false);
-    let retained = fields::flag_in(s, fields::lookup_in(s, m, b"retained"), true);
-    Entry {
+    let settable = fields::flag_in(s, fields::field_at(seen, fields::SETTABLE), false);
+    let retained = fields::flag_in(s, fields::field_at(seen, fields::RETAINED), true);
+    let e = Entry {
         node: node,
         id: id,
         datatype: d,
@@ -268,5 +275,28 @@ pub fn entry_at(s: &[u8], node: usize, id: usize, k: usize) -> Entry
         kept: kept,
         settable: settable,
         retained: retained,
+    };
+    Judged {
+        valid: true,
+        entry: e,
+    }
+}
+
+// The property whose object is at `k`, named by the strings at `node` and `id`.
+pub fn property_at(s: &[u8], node: usize, id: usize, k: usize, ends: &[u16]) -> Judged
+    ensures { λ r. ⌜ (Ends (now (s .entry)) (now (ends .entry)) → Judges (propertyRules (now (s .entry)) k) (propertyAt (now (s .entry)) node id k) (now (s .entry)) r) ⌝ }
+{
+    if !fields::is_object(s, k) {
+        return refused();
+    }
+    let m = fields::known_fields(s, k, ends);
+    let plain = m.plain;
+    let seen = m.seen;
+    if !plain {
+        return refused();
+    }
+    match datatype_in(s, fields::field_at(&seen, fields::DATATYPE), ends) {
+        Named::Unknown => refused(),
+        Named::Known(d) => finish(s, node, id, d, &seen, ends),
     }
 }

@@ -60,7 +60,7 @@ fn is_given(s: &[u8], f: Field) -> bool
     match f {
         Field::Absent => false,
         Field::One(k) => {
-            let t = fields::text_at(s, k);
+            let t = fields::string_bytes(s, k);
             0 < t.len()
         }
         Field::Twice => false,

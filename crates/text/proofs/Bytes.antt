@@ -8,9 +8,10 @@ use mathlib.Core.Bool.{Bool, true, false, _&&_, _||_, false≢true, and-false}
 use lib.Dec.{ltb, leb, eqb}
 use lib.ListN.{length, drop, getD, drop-of-length-le}
 use lib.Seq.{drop-cons}
-use borrow.Author.Tests.{leb-true, leb-false, eqb-true, le-ltb, eq-eqb, ne-eqb}
+use borrow.Author.Tests.{leb-true, leb-false, eqb-true, lt-ltb, le-ltb, eq-eqb, ne-eqb}
 use Rattle.abnf.specs.Accepts.{inRange}
 use Rattle.text.specs.Bytes.{eqBytes, lessBytes}
+use Rattle.text.specs.Parts.{Shorter}
 
 -- by cases of a test, with its equation
 pub both {ℓ} : {X : Type ℓ} (b : Bool) → (b ≡ true → X) → (b ≡ false → X) → X
@@ -107,3 +108,11 @@ module _ (a b : List ℕ) (i : ℕ) where
 
     pub less-next : getD a i 0 ≡ getD b i 0 → lessBytes (drop (i + 1) a) (drop (i + 1) b) ≡ lessBytes (drop i a) (drop i b)
     less-next e = sym (less-step ∙ rw (le-ltb (getD a i 0) (getD b i 0) (omega arith), eq-eqb (getD a i 0) (getD b i 0) e))
+
+-- where the shorter has ended
+pub less-shorter : (a b : List ℕ) (n : ℕ) → Shorter a b n → ltb (length a) (length b) ≡ lessBytes (drop n a) (drop n b)
+less-shorter a b n s =
+    let l = s .left in
+    at-most (length b) n
+    (λ h. le-ltb (length a) (length b) (omega arith) ∙ less-end a b n h)
+    (λ h. let g = s .ends h in lt-ltb (length a) (length b) (omega arith) ∙ less-short a b n g h)

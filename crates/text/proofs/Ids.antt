@@ -1,19 +1,21 @@
 -- IDs: the bytes of one, and reading one.
 use mathlib.Core.Path.{_≡_, refl, sym, ap, _∙_}
-use mathlib.Core.List.{List, _++_}
-use mathlib.Core.Bool.{true, false, _&&_, false≢true}
+use mathlib.Core.List.{List, [], _∷_, _++_}
+use mathlib.Core.Bool.{Bool, true, false, _&&_, _||_, false≢true, or-false}
 use Prim.Native.Nat.{ℕ, zero, suc, _+_, _-_, _≤_, _<_}
 use native.Mathlib.Nat.{zero-add, sub-zero, zero-sub, suc-sub-suc}
 use native.Mathlib.Numerals.{add-one}
 use native.Mathlib.Omega.{arith}
-use lib.Dec.{leb}
+use lib.Dec.{leb, eqb}
 use lib.ListN.{length, take, drop, set, getD, replicate, length-set}
-use lib.Seq.{drop-cons, paste-suc, drop-length, take-length, take-append-seam}
+use lib.Seq.{paste-suc, take-length, take-append-seam}
 use borrow.Author.Tests.{le-leb, lt-leb, ne-eqb, leb-true}
 use Rattle.text.specs.Bytes.{every}
 use Rattle.text.specs.Ids.{idByte, isId, idOf, idBytes, readId}
 use Rattle.text.specs.declared.IdRead.{IdRead}
-use Rattle.text.proofs.Bytes.{both}
+use Rattle.text.specs.Parts.{Decides, IdBytes}
+use Rattle.text.proofs.Bytes.{both, and-both}
+use Rattle.text.proofs.Each.{each-one}
 
 module _ (b : ℕ) where
   pub lower : 97 ≤ b → b ≤ 122 → idByte b ≡ true
@@ -28,22 +30,22 @@ module _ (b : ℕ) where
   unfolding idByte
   dash e = simp e
 
-  pub high : 122 < b → idByte b ≡ false
+  -- one comparison decides, by where the byte stands
+  pub from-a : 97 ≤ b → leb b 122 ≡ idByte b
   unfolding idByte
-  high h = simp (le-leb 97 b (omega arith), lt-leb b 122 h, le-leb 48 b (omega arith), lt-leb b 57 (omega arith), ne-eqb b 45 (λ e. omega arith))
+  from-a h = rw (le-leb 97 b h, le-leb 48 b (omega arith), lt-leb b 57 (omega arith), ne-eqb b 45 (λ e. omega arith)) (sym (or-false (leb b 122)))
 
-  pub mid : 57 < b → b < 97 → idByte b ≡ false
+  pub from-0 : 48 ≤ b → b < 97 → leb b 57 ≡ idByte b
   unfolding idByte
-  mid h k = simp (lt-leb 97 b k, le-leb 48 b (omega arith), lt-leb b 57 h, ne-eqb b 45 (λ e. omega arith))
+  from-0 h k = rw (lt-leb 97 b k, le-leb 48 b h, ne-eqb b 45 (λ e. omega arith)) (sym (or-false (leb b 57)))
 
-  pub low : b < 48 → (b ≡ 45 → ⊥) → idByte b ≡ false
+  pub below-0 : b < 48 → eqb b 45 ≡ idByte b
   unfolding idByte
-  low h k = simp (lt-leb 97 b (omega arith), lt-leb 48 b h, ne-eqb b 45 k)
+  below-0 h = rw (lt-leb 97 b (omega arith), lt-leb 48 b h)
 
--- one byte more
-pub all-step : (s : List ℕ) (i : ℕ) → i < length s → every idByte (drop i s) ≡ (idByte (getD s i 0) && every idByte (drop (i + 1) s))
-unfolding every
-all-step s i h = rw (add-one, drop-cons s i 0)
+  pub flat : (leb 97 b && leb b 122) || ((leb 48 b && leb b 57) || eqb b 45) ≡ idByte b
+  unfolding idByte
+  flat = refl
 
 pub id-none : (s : List ℕ) → length s ≡ 0 → isId s ≡ false
 unfolding isId
@@ -58,26 +60,32 @@ pub id-sized : (s : List ℕ) → 0 < length s → length s ≤ 32 → isId s �
 unfolding isId
 id-sized s h k = simp (le-leb 1 (length s) h, le-leb (length s) 32 k)
 
--- the bytes from i on decide
-pub record Left (s : List ℕ) (i : ℕ) : Type 0 where
-  pub some : 0 < length s
-  pub few : length s ≤ 32
-  pub fits : i ≤ length s
-  pub same : isId s ≡ every idByte (drop i s)
+-- ---- all bytes
 
-pub left-start : (s : List ℕ) → 0 < length s → length s ≤ 32 → Left s 0
-left-start s h k = record { some = h; few = k; fits = omega arith; same = id-sized s h k }
+every-at : (p : ℕ → Bool) (s : List ℕ) → every p s ≡ true → (k : ℕ) → k < length s → p (getD s k 0) ≡ true
+unfolding every
+every-at p [] e k h = absurd (omega arith)
+every-at p (b ∷ s) e zero h = and-both (p b) (every p s) e .0
+every-at p (b ∷ s) e (suc k) h = every-at p s (and-both (p b) (every p s) e .1) k (omega arith)
 
-module _ (s : List ℕ) (i : ℕ) (l : Left s i) where
-  pub left-stop : i < length s → idByte (getD s i 0) ≡ false → false ≡ isId s
-  left-stop h e = sym (l .same ∙ all-step s i h ∙ rw e)
+at-every : (p : ℕ → Bool) (s : List ℕ) → ((k : ℕ) → k < length s → p (getD s k 0) ≡ true) → every p s ≡ true
+unfolding every
+at-every p [] f = refl
+at-every p (b ∷ s) f = rw (f zero (omega arith)) (at-every p s (λ k h. f (suc k) (omega arith)))
 
-  pub left-step : i < length s → idByte (getD s i 0) ≡ true → Left s (i + 1)
-  left-step h e = record { some = l .some; few = l .few; fits = omega arith; same = l .same ∙ all-step s i h ∙ rw e }
+module _ (s : List ℕ) where
+  pub id-one : (i j : ℕ) {r : Bool} → i + 1 ≡ j → i < length s → r ≡ idByte (getD s i 0) → Decides (IdBytes s i j) r
+  id-one i j e h q = record {
+    yes = λ t. each-one i j e h (sym q ∙ t);
+    no = λ t v. false≢true (sym t ∙ q ∙ v .all i (omega arith) (omega arith));
+  }
 
-  pub left-end : length s ≤ i → true ≡ isId s
-  unfolding every
-  left-end h = let e : i ≡ length s = omega (arith, l .fits) in sym (l .same ∙ rw (e, drop-length))
+  pub id-answer : (r : Bool) → 0 < length s → length s ≤ 32 → Decides (IdBytes s 0 (length s)) r → r ≡ isId s
+  id-answer r h k d = both r
+      (λ q. let v = d .yes q in q ∙ sym (id-sized s h k ∙ at-every idByte s (λ i g. v .all i (omega arith) g)))
+      (λ q. both (isId s)
+      (λ e. absurd (d .no q (record { from = omega arith; to = omega arith; all = λ i g f. every-at idByte s (sym (id-sized s h k) ∙ e) i f })))
+      (λ e. q ∙ sym e))
 
 -- what an ID has
 pub record IsId (s : List ℕ) : Type 0 where

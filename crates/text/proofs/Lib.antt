@@ -6,7 +6,10 @@ pub mod Joins
 pub mod Repeats
 pub mod Ids
 pub mod IdGrammar
+pub mod Each
+pub mod Ascii
 pub mod Steps
+pub mod Characters
 pub mod Utf8
 pub mod Scalars
 pub mod Rule10

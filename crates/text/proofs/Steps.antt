@@ -1,16 +1,20 @@
--- What is due after each byte, and the loop over the bytes.
-use Prim.Native.Nat.{ℕ, zero, suc, _+_, _-_, _≤_, _<_}
+-- What is due after each byte.
+use Prim.Native.Nat.{ℕ, zero, suc, _+_, _≤_, _<_}
 use native.Mathlib.Numerals.{add-one}
 use native.Mathlib.Omega.{arith}
-use mathlib.Core.Path.{_≡_, refl, sym, ap, _∙_}
-use mathlib.Core.List.{List}
-use mathlib.Core.Bool.{true, false}
-use lib.Dec.{eqb}
+use mathlib.Core.Path.{_≡_, refl, ap, _∙_}
+use mathlib.Core.List.{List, [], _∷_}
+use mathlib.Core.Bool.{false, cond}
+use lib.Dec.{leb, eqb}
 use lib.ListN.{length, drop, getD, drop-of-length-le}
 use lib.Seq.{drop-cons}
 use borrow.Author.Tests.{le-leb, lt-leb, eq-eqb, ne-eqb}
-use Rattle.text.specs.declared.Due.{Due}
-use Rattle.text.specs.Parts.{due, ready, never, low, high, first, later, next, utf8From}
+use Rattle.text.specs.Parts.{Due, due, ready, never, low, high, first, later, next, utf8From, ByteIn}
+use Rattle.text.proofs.Bytes.{at-most}
+
+-- the bytes due beyond three
+unfoldable pub extra : ℕ → ℕ
+extra b = cond (leb b 0xEF) 0 1
 
 module _ (b : ℕ) where
   pub low-E0 : b ≡ 0xE0 → low b ≡ 0xA0
@@ -61,13 +65,10 @@ module _ (b : ℕ) where
   unfolding first
   first-over h = rw (lt-leb b 0x7F (omega arith), lt-leb b 0xC1 (omega arith), lt-leb b 0xDF (omega arith), lt-leb b 0xEF (omega arith), lt-leb b 0xF4 h)
 
-  -- the same with the range in hand
-  module _ {lo hi : ℕ} (p : lo ≡ low b) (q : hi ≡ high b) where
-    pub begun-3 : 0xDF < b → b ≤ 0xEF → due 2 lo hi ≡ first b
-    begun-3 h k = rw (p, q) (sym (first-3 h k))
-
-    pub begun-4 : 0xEF < b → b ≤ 0xF4 → due 3 lo hi ≡ first b
-    begun-4 h k = rw (p, q) (sym (first-4 h k))
+  -- the first byte of three or four
+  pub first-long : 0xDF < b → b ≤ 0xF4 → first b ≡ due (suc (suc (extra b))) (low b) (high b)
+  unfolding extra
+  first-long h k = at-most b 0xEF (λ q. rw (le-leb b 0xEF q) (first-3 h q)) (λ q. rw (lt-leb b 0xEF q) (first-4 q k))
 
   later-low : (n lo hi : ℕ) → 0 < n → b < lo → later n lo hi b ≡ never
   unfolding later
@@ -88,40 +89,47 @@ module _ (b : ℕ) where
     unfolding next later
     next-ready e = rw e
 
-    pub next-low : 0 < d .count → b < d .lo → next d b ≡ never
+    next-low : 0 < d .count → b < d .lo → next d b ≡ never
     unfolding next
     next-low p h = later-low (d .count) (d .lo) (d .hi) p h
 
-    pub next-high : 0 < d .count → d .lo ≤ b → d .hi < b → next d b ≡ never
+    next-high : 0 < d .count → d .lo ≤ b → d .hi < b → next d b ≡ never
     unfolding next
     next-high p h k = later-high (d .count) (d .lo) (d .hi) p h k
 
-    pub next-in : 0 < d .count → d .lo ≤ b → b ≤ d .hi → next d b ≡ due (d .count - 1) 0x80 0xBF
-    unfolding next
-    next-in p h k = later-in (d .count) (d .count - 1) (d .lo) (d .hi) (omega arith) h k
+-- nothing follows `never`
+never-next : (b : ℕ) → next never b ≡ never
+never-next b = at-most 1 b (λ h. next-high b never (omega arith) h (omega arith)) (λ h. next-low b never (omega arith) h)
 
--- what is left of the bytes says what the whole says
-pub record Left (s : List ℕ) (d : Due) (i : ℕ) : Type 0 where
-  pub fits : i ≤ length s
-  pub same : utf8From d (drop i s) ≡ utf8From ready s
-
-pub left-start : (s : List ℕ) → Left s ready 0
-left-start s = record { fits = omega arith; same = refl }
-
-pub left-step : (s : List ℕ) (d r : Due) (i : ℕ) → Left s d i → i < length s → r ≡ next d (getD s i 0) → Left s r (i + 1)
+pub never-ends : (s : List ℕ) → utf8From never s ≡ false
 unfolding utf8From
-left-step s d r i l h e =
-    let c = drop-cons s i 0 h in
-    let f : utf8From d (drop i s) ≡ utf8From (next d (getD s i 0)) (drop (i + 1) s) = rw (c, add-one i) in
-    record { fits = omega arith; same = ap (λ (x : Due). utf8From x (drop (i + 1) s)) e ∙ sym f ∙ l .same }
+never-ends [] = refl
+never-ends (b ∷ s) = rw (never-next b) (never-ends s)
 
-module _ (s : List ℕ) (d : Due) (i : ℕ) (l : Left s d i) (h : length s ≤ i) where
-  at-end : eqb (d .count) 0 ≡ utf8From ready s
+-- ---- at a place of a byte string
+
+module _ (s : List ℕ) (d : Due) (i : ℕ) where
+  pub at-end : length s ≤ i → utf8From d (drop i s) ≡ eqb (d .count) 0
   unfolding utf8From
-  at-end = sym (ap (λ (x : List ℕ). utf8From d x) (drop-of-length-le s h)) ∙ l .same
+  at-end h = ap (λ (x : List ℕ). utf8From d x) (drop-of-length-le s h)
 
-  pub left-whole : d .count ≡ 0 → true ≡ utf8From ready s
-  left-whole e = sym (eq-eqb (d .count) 0 e) ∙ at-end
+  pub one-byte : {j : ℕ} → i + 1 ≡ j → i < length s → utf8From d (drop i s) ≡ utf8From (next d (getD s i 0)) (drop j s)
+  unfolding utf8From
+  one-byte e h =
+      let c = drop-cons s i 0 h in
+      let f : utf8From d (drop i s) ≡ utf8From (next d (getD s i 0)) (drop (i + 1) s) = rw (c, add-one i) in
+      f ∙ ap (λ (k : ℕ). utf8From (next d (getD s i 0)) (drop k s)) e
 
-  pub left-cut : (d .count ≡ 0 → ⊥) → false ≡ utf8From ready s
-  left-cut n = sym (ne-eqb (d .count) 0 n) ∙ at-end
+module _ {s : List ℕ} {i : ℕ} (n : ℕ) {lo hi : ℕ} where
+  pub due-in : (j : ℕ) → i + 1 ≡ j → ByteIn s i lo hi → utf8From (due (suc n) lo hi) (drop i s) ≡ utf8From (due n 0x80 0xBF) (drop j s)
+  unfolding next
+  due-in j e v = one-byte s (due (suc n) lo hi) i e (v .inside) ∙ ap (λ (x : Due). utf8From x (drop j s)) (later-in (getD s i 0) (suc n) n lo hi refl (v .least) (v .most))
+
+  pub due-out : (ByteIn s i lo hi → ⊥) → utf8From (due (suc n) lo hi) (drop i s) ≡ false
+  due-out v =
+      let d = due (suc n) lo hi in
+      at-most (length s) i (λ h. at-end s d i h ∙ ne-eqb (suc n) 0 (λ e. omega arith)) λ h.
+      let stops : next d (getD s i 0) ≡ never → utf8From d (drop i s) ≡ false = λ e. one-byte s d i refl h ∙ ap (λ (x : Due). utf8From x (drop (i + 1) s)) e ∙ never-ends (drop (i + 1) s) in
+      at-most lo (getD s i 0)
+      (λ p. at-most (getD s i 0) hi (λ q. absurd (v (record { inside = h; least = p; most = q }))) (λ q. stops (next-high (getD s i 0) d (omega arith) p q)))
+      (λ p. stops (next-low (getD s i 0) d (omega arith) p))

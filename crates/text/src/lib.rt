@@ -7,8 +7,9 @@ ghost use mathlib.Core.Logic.{_↔_};
 ghost use mathlib.Core.Bool.{true};
 ghost use Rattle.abnf.specs.Abnf.{_∈_};
 ghost use Rattle.text.specs.Utf8.{UTF8-octets, startsBom, isText};
-ghost use Rattle.text.specs.Parts.{low, high, first, next};
-ghost use Prim.Native.Nat.{_<_};
+ghost use Rattle.text.specs.Parts.{Decides, Word4, Word8, Shorter, IdBytes, Ascii, AsciiRun, low, high, ByteIn, Begins, Reads};
+ghost use Prim.Native.Nat.{_+_, _≤_, _<_};
+ghost use lib.ListN.{length, getD};
 
 // Whether two byte strings are equal. From the end on: IDs of one house mostly begin alike.
 pub fn same(a: &[u8], b: &[u8]) -> bool
@@ -27,18 +28,23 @@ pub fn same(a: &[u8], b: &[u8]) -> bool
     true
 }
 
+// The length of the shorter of the two.
+fn shorter(a: &[u8], b: &[u8]) -> usize
+    ensures { λ r. ⌜ Shorter (now (a .entry)) (now (b .entry)) r ⌝ }
+{
+    if a.len() < b.len() {
+        return a.len();
+    }
+    b.len()
+}
+
 // Whether `a` stands before `b` in byte order.
 pub fn precedes(a: &[u8], b: &[u8]) -> bool
     ensures { λ r. ⌜ r ≡ lessBytes (now (a .entry)) (now (b .entry)) ⌝ }
 {
+    let n = shorter(a, b);
     let mut i = 0;
-    loop {
-        if i >= b.len() {
-            return false;
-        }
-        if i >= a.len() {
-            return true;
-        }
+    while i < n {
         let x = a[i];
         let y = b[i];
         if x != y {
@@ -46,6 +52,7 @@ pub fn precedes(a: &[u8], b: &[u8]) -> bool
         }
         i += 1;
     }
+    a.len() < b.len()
 }
 
 // The bytes `start..end` of a byte string.
@@ -120,12 +127,64 @@ pub struct IdRead {
 fn id_byte(b: u8) -> bool
     ensures { λ r. ⌜ r ≡ idByte b ⌝ }
 {
-    match b {
-        b'a'..=b'z' => true,
-        b'0'..=b'9' => true,
-        b'-' => true,
-        _ => false,
+    if b >= b'a' {
+        return b <= b'z';
     }
+    if b >= b'0' {
+        return b <= b'9';
+    }
+    b == b'-'
+}
+
+// The same without a branch, so that the compiler tests several bytes at once.
+fn id_byte_flat(b: u8) -> bool
+    ensures { λ r. ⌜ r ≡ idByte b ⌝ }
+{
+    ((b >= b'a') & (b <= b'z')) | (((b >= b'0') & (b <= b'9')) | (b == b'-'))
+}
+
+// Whether the four bytes from `i` on may stand in an ID.
+fn id_4(s: &[u8], i: usize) -> bool
+    requires { ⌜ i + 4 ≤ length (now s) ⌝ }
+    ensures { λ r. ⌜ Decides (IdBytes (now (s .entry)) i (i + 4)) r ⌝ }
+{
+    id_byte_flat(s[i]) & id_byte_flat(s[i + 1]) & id_byte_flat(s[i + 2]) & id_byte_flat(s[i + 3])
+}
+
+fn id_8(s: &[u8], i: usize) -> bool
+    requires { ⌜ i + 8 ≤ length (now s) ⌝ }
+    ensures { λ r. ⌜ Decides (IdBytes (now (s .entry)) i (i + 8)) r ⌝ }
+{
+    id_4(s, i) & id_4(s, i + 4)
+}
+
+// Whether 8 bytes or more may all stand in an ID; the last block may overlap the one before.
+fn id_blocks(s: &[u8]) -> bool
+    requires { ⌜ 8 ≤ length (now s) ⌝ }
+    ensures { λ r. ⌜ Decides (IdBytes (now (s .entry)) 0 (length (now (s .entry)))) r ⌝ }
+{
+    let mut i = s.len();
+    while i > 8 {
+        i -= 8;
+        if !id_8(s, i) {
+            return false;
+        }
+    }
+    id_8(s, 0)
+}
+
+// Whether all bytes may stand in an ID, one by one.
+fn id_bytes(s: &[u8]) -> bool
+    ensures { λ r. ⌜ Decides (IdBytes (now (s .entry)) 0 (length (now (s .entry)))) r ⌝ }
+{
+    let mut i = 0;
+    while i < s.len() {
+        if !id_byte(s[i]) {
+            return false;
+        }
+        i += 1;
+    }
+    true
 }
 
 // Whether the bytes are an ID.
@@ -138,14 +197,10 @@ pub fn is_id(s: &[u8]) -> bool
     if s.len() > Id::MAX {
         return false;
     }
-    let mut i = 0;
-    while i < s.len() {
-        if !id_byte(s[i]) {
-            return false;
-        }
-        i += 1;
+    if s.len() >= 8 {
+        return id_blocks(s);
     }
-    true
+    id_bytes(s)
 }
 
 impl Id {
@@ -181,11 +236,129 @@ impl Id {
     }
 }
 
-// How many bytes of a character are due, and the range of the first of them.
-struct Due {
-    count: u8,
-    lo: u8,
-    hi: u8,
+// A byte as a number of 64 bits.
+fn wide(b: u8) -> u64
+    ensures { λ r. ⌜ (r ≡ b) × (r < 0x100) ⌝ }
+{
+    b as u64
+}
+
+// The four bytes from `i` on as one number, the lowest first: the compiler loads them at once.
+fn word_4(s: &[u8], i: usize) -> u64
+    requires { ⌜ i + 4 ≤ length (now s) ⌝ }
+    ensures { λ r. ⌜ Word4 (now (s .entry)) i r ⌝ }
+{
+    wide(s[i]) + wide(s[i + 1]) * 0x100 + wide(s[i + 2]) * 0x10000 + wide(s[i + 3]) * 0x1000000
+}
+
+// Likewise the eight bytes.
+fn word_8(s: &[u8], i: usize) -> u64
+    requires { ⌜ i + 8 ≤ length (now s) ⌝ }
+    ensures { λ r. ⌜ Word8 (now (s .entry)) i r ⌝ }
+{
+    word_4(s, i) + word_4(s, i + 4) * 0x100000000
+}
+
+// Whether the four bytes from `i` on are ASCII.
+fn ascii_4(s: &[u8], i: usize) -> bool
+    requires { ⌜ i + 4 ≤ length (now s) ⌝ }
+    ensures { λ r. ⌜ (r ≡ true → Ascii (now (s .entry)) i (i + 4)) ⌝ }
+{
+    word_4(s, i) & 0x80808080 == 0
+}
+
+fn ascii_8(s: &[u8], i: usize) -> bool
+    requires { ⌜ i + 8 ≤ length (now s) ⌝ }
+    ensures { λ r. ⌜ (r ≡ true → Ascii (now (s .entry)) i (i + 8)) ⌝ }
+{
+    word_8(s, i) & 0x8080808080808080 == 0
+}
+
+// No branch between the two, so that the compiler tests them at once.
+fn ascii_16(s: &[u8], i: usize) -> bool
+    requires { ⌜ i + 16 ≤ length (now s) ⌝ }
+    ensures { λ r. ⌜ (r ≡ true → Ascii (now (s .entry)) i (i + 16)) ⌝ }
+{
+    ascii_8(s, i) & ascii_8(s, i + 8)
+}
+
+// Past ASCII bytes from `at` on, 16 at a time.
+fn pass_16s(s: &[u8], at: usize) -> usize
+    requires { ⌜ at ≤ length (now s) ⌝ }
+    ensures { λ r. ⌜ Ascii (now (s .entry)) at r ⌝ }
+{
+    let mut i = at;
+    while s.len() - i >= 16 {
+        if !ascii_16(s, i) {
+            return i;
+        }
+        i += 16;
+    }
+    i
+}
+
+// Past the 8 bytes from `at` on, if they are there and ASCII.
+fn pass_8(s: &[u8], at: usize) -> usize
+    requires { ⌜ at ≤ length (now s) ⌝ }
+    ensures { λ r. ⌜ Ascii (now (s .entry)) at r ⌝ }
+{
+    if s.len() - at < 8 {
+        return at;
+    }
+    if ascii_8(s, at) {
+        return at + 8;
+    }
+    at
+}
+
+fn pass_4(s: &[u8], at: usize) -> usize
+    requires { ⌜ at ≤ length (now s) ⌝ }
+    ensures { λ r. ⌜ Ascii (now (s .entry)) at r ⌝ }
+{
+    if s.len() - at < 4 {
+        return at;
+    }
+    if ascii_4(s, at) {
+        return at + 4;
+    }
+    at
+}
+
+// Past all ASCII bytes from `at` on, one at a time.
+fn pass_bytes(s: &[u8], at: usize) -> usize
+    requires { ⌜ at ≤ length (now s) ⌝ }
+    ensures { λ r. ⌜ AsciiRun (now (s .entry)) at r ⌝ }
+{
+    let mut i = at;
+    while i < s.len() {
+        if s[i] >= 0x80 {
+            return i;
+        }
+        i += 1;
+    }
+    i
+}
+
+// Past all ASCII bytes from `at` on.
+fn ascii_run(s: &[u8], at: usize) -> usize
+    requires { ⌜ at ≤ length (now s) ⌝ }
+    ensures { λ r. ⌜ AsciiRun (now (s .entry)) at r ⌝ }
+{
+    pass_bytes(s, pass_4(s, pass_8(s, pass_16s(s, at))))
+}
+
+// The same where another character of several bytes is as likely.
+fn next_run(s: &[u8], at: usize) -> usize
+    requires { ⌜ at ≤ length (now s) ⌝ }
+    ensures { λ r. ⌜ AsciiRun (now (s .entry)) at r ⌝ }
+{
+    if at >= s.len() {
+        return at;
+    }
+    if s[at] >= 0x80 {
+        return at;
+    }
+    ascii_run(s, at)
 }
 
 // The least second byte after a first one: shorter forms stand below it.
@@ -214,85 +387,72 @@ fn most(b: u8) -> u8
     0xBF
 }
 
-// What is due after the first byte of three or four.
-fn longer(b: u8) -> Due
-    requires { ⌜ 0xDF < b ⌝ }
-    ensures { λ r. ⌜ r ≡ first b ⌝ }
+// Whether a byte from `lo` to `hi` stands at `i`.
+fn byte_in(s: &[u8], i: usize, lo: u8, hi: u8) -> bool
+    ensures { λ r. ⌜ Decides (ByteIn (now (s .entry)) i lo hi) r ⌝ }
 {
-    if b <= 0xEF {
-        return Due {
-            count: 2,
-            lo: least(b),
-            hi: most(b),
-        };
+    if i >= s.len() {
+        return false;
     }
-    if b <= 0xF4 {
-        return Due {
-            count: 3,
-            lo: least(b),
-            hi: most(b),
-        };
+    if s[i] < lo {
+        return false;
     }
-    Due {
-        count: 1,
-        lo: 1,
-        hi: 0,
-    }
+    s[i] <= hi
 }
 
-// What is due after a first byte.
-fn begin(b: u8) -> Due
-    ensures { λ r. ⌜ r ≡ first b ⌝ }
-{
-    if b <= 0x7F {
-        return Due {
-            count: 0,
-            lo: 0x80,
-            hi: 0xBF,
-        };
-    }
-    if b <= 0xC1 {
-        return Due {
-            count: 1,
-            lo: 1,
-            hi: 0,
-        };
-    }
-    if b <= 0xDF {
-        return Due {
-            count: 1,
-            lo: 0x80,
-            hi: 0xBF,
-        };
-    }
-    longer(b)
+// Where a character of several bytes ends.
+enum CharacterEnd {
+    At(usize),
+    Broken,
 }
 
-// What is due after one more byte.
-fn step(d: Due, b: u8) -> Due
-    ensures { λ r. ⌜ r ≡ next d b ⌝ }
+// A character that begins with `b` at `i`: one of two bytes.
+fn short_character(s: &[u8], i: usize, b: u8) -> CharacterEnd
+    requires { ⌜ Begins (now s) i b × (b < 0xE0) ⌝ }
+    ensures { λ r. ⌜ Reads (now (s .entry)) i r ⌝ }
 {
-    if d.count == 0 {
-        return begin(b);
+    if b < 0xC2 {
+        return CharacterEnd::Broken;
     }
-    if b < d.lo {
-        return Due {
-            count: 1,
-            lo: 1,
-            hi: 0,
-        };
+    if !byte_in(s, i + 1, 0x80, 0xBF) {
+        return CharacterEnd::Broken;
     }
-    if b > d.hi {
-        return Due {
-            count: 1,
-            lo: 1,
-            hi: 0,
-        };
+    CharacterEnd::At(i + 2)
+}
+
+// One of three or four.
+fn long_character(s: &[u8], i: usize, b: u8) -> CharacterEnd
+    requires { ⌜ Begins (now s) i b × (0xDF < b) ⌝ }
+    ensures { λ r. ⌜ Reads (now (s .entry)) i r ⌝ }
+{
+    if b > 0xF4 {
+        return CharacterEnd::Broken;
     }
-    Due {
-        count: d.count - 1,
-        lo: 0x80,
-        hi: 0xBF,
+    if !byte_in(s, i + 1, least(b), most(b)) {
+        return CharacterEnd::Broken;
+    }
+    if !byte_in(s, i + 2, 0x80, 0xBF) {
+        return CharacterEnd::Broken;
+    }
+    if b < 0xF0 {
+        return CharacterEnd::At(i + 3);
+    }
+    if !byte_in(s, i + 3, 0x80, 0xBF) {
+        return CharacterEnd::Broken;
+    }
+    CharacterEnd::At(i + 4)
+}
+
+// The character of several bytes at `i`.
+fn character(s: &[u8], i: usize) -> CharacterEnd
+    requires { ⌜ Begins (now s) i (getD (now s) i 0) ⌝ }
+    ensures { λ r. ⌜ Reads (now (s .entry)) i r ⌝ }
+{
+    let b = s[i];
+    if b < 0xE0 {
+        short_character(s, i, b)
+    } else {
+        long_character(s, i, b)
     }
 }
 
@@ -300,18 +460,14 @@ fn step(d: Due, b: u8) -> Due
 pub fn is_utf8(s: &[u8]) -> bool
     ensures { λ r. ⌜ (r ≡ true) ↔ (now (s .entry) ∈ UTF8-octets) ⌝ }
 {
-    let mut d = Due {
-        count: 0,
-        lo: 0x80,
-        hi: 0xBF,
-    };
-    let mut i = 0;
+    let mut i = ascii_run(s, 0);
     while i < s.len() {
-        d = step(d, s[i]);
-        i += 1;
-    }
-    if d.count != 0 {
-        return false;
+        match character(s, i) {
+            CharacterEnd::At(e) => {
+                i = next_run(s, e);
+            }
+            CharacterEnd::Broken => return false,
+        }
     }
     true
 }

@@ -7,13 +7,13 @@ is-id-text-requires : tie.Need-is-id-text-requires
 is-id-text-requires c κs = search needs
 
 returns : tie.Need-returns
-returns c = item-id _ _ (c .before .if1 .taken) (c .is-id-text .ensures)
+returns c = λ h. item-id _ _ (c .before .if1 .taken) (c .is-id-text .ensures h)
 
-is-text-requires : tie.Need-is-text-requires
-is-text-requires c κs = search needs
+is-string-requires : tie.Need-is-string-requires
+is-string-requires c κs = search needs
 
 returns-2 : tie.Need-returns-2
-returns-2 c = item-text _ _ (c .before .if1 .left) (c .is-text .ensures)
+returns-2 c = λ h. item-text _ _ (c .before .if1 .left) (c .is-string .ensures)
 
 pub is-item-spec : {M : Type 1} → statement M
-is-item-spec = tie.close (tie.spec is-id-text-requires returns is-text-requires returns-2)
+is-item-spec = tie.close (tie.spec is-id-text-requires returns is-string-requires returns-2)

@@ -9,8 +9,8 @@ use Rattle.fields.proofs.is_of_kind.Tie as tie
 enum-told : tie.Need-enum-told
 enum-told c = search needs
 
-is-text-requires : tie.Need-is-text-requires
-is-text-requires c κs = search needs
+is-string-requires : tie.Need-is-string-requires
+is-string-requires c κs = search needs
 
 enum-told-2 : tie.Need-enum-told-2
 enum-told-2 c = search needs
@@ -44,34 +44,34 @@ is-array-of-requires-2 c κs = search needs
 
 returns : tie.Need-returns
 unfolding ofKind
-returns c = of-kind _ _ Text (c .before .enum-told .given .1) (c .is-text .ensures)
+returns c = λ h. of-kind _ _ Text (c .before .enum-told .given .1) (c .is-string .ensures)
 
 returns-2 : tie.Need-returns-2
 unfolding ofKind
-returns-2 c = of-kind _ _ Flag (c .before .enum-told2 .given .1) (c .is-flag .ensures)
+returns-2 c = λ h. of-kind _ _ Flag (c .before .enum-told2 .given .1) (c .is-flag .ensures)
 
 returns-3 : tie.Need-returns-3
 unfolding ofKind
-returns-3 c = of-kind _ _ Object (c .before .enum-told3 .given .1) (c .is-object .ensures)
+returns-3 c = λ h. of-kind _ _ Object (c .before .enum-told3 .given .1) (c .is-object .ensures)
 
 returns-4 : tie.Need-returns-4
 unfolding ofKind
-returns-4 c = of-kind _ _ Id (c .before .enum-told4 .given .1) (c .is-id-text .ensures)
+returns-4 c = λ h. of-kind _ _ Id (c .before .enum-told4 .given .1) (c .is-id-text .ensures h)
 
 returns-5 : tie.Need-returns-5
 unfolding ofKind itemTest
-returns-5 c = of-kind _ _ Ids (c .before .enum-told5 .given .1) (c .is-array-of .ensures)
+returns-5 c = λ h. of-kind _ _ Ids (c .before .enum-told5 .given .1) (c .is-array-of .ensures h)
 
 returns-6 : tie.Need-returns-6
 unfolding ofKind itemTest
-returns-6 c = of-kind _ _ Texts (c .before .enum-told6 .given .1) (c .is-array-of2 .ensures)
+returns-6 c = λ h. of-kind _ _ Texts (c .before .enum-told6 .given .1) (c .is-array-of2 .ensures h)
 
 pub is-of-kind-spec : {M : Type 1} → statement M
 is-of-kind-spec =
     tie.close
     (tie.spec
     enum-told
-    is-text-requires
+    is-string-requires
     enum-told-2
     is-flag-requires
     enum-told-3

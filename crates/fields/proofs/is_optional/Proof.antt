@@ -16,13 +16,13 @@ enum-told-2 : tie.Need-enum-told-2
 enum-told-2 c = search needs
 
 returns : tie.Need-returns
-returns c = optional-absent _ _ (c .enum-told .given .1)
+returns c = λ h. optional-absent _ _ (c .enum-told .given .1)
 
 returns-2 : tie.Need-returns-2
-returns-2 c = optional-one _ _ (c .before .before .f .given .1) (c .is-of-kind .ensures)
+returns-2 c = λ h. optional-one _ _ (c .before .before .f .given .1) (c .is-of-kind .ensures h)
 
 returns-3 : tie.Need-returns-3
-returns-3 c = optional-twice _ _ (c .enum-told2 .given .1)
+returns-3 c = λ h. optional-twice _ _ (c .enum-told2 .given .1)
 
 pub is-optional-spec : {M : Type 1} → statement M
 is-optional-spec =

@@ -12,8 +12,8 @@ slice-aggregate-result c = search needs
 enum-known-f : tie.Need-enum-known-f
 enum-known-f c = search needs
 
-text-at-requires : tie.Need-text-at-requires
-text-at-requires c κs = search needs
+string-bytes-requires : tie.Need-string-bytes-requires
+string-bytes-requires c κs = search needs
 
 enum-told-2 : tie.Need-enum-told-2
 enum-told-2 c = search needs
@@ -25,7 +25,7 @@ returns : tie.Need-returns
 returns c = text-absent _ (c .before .enum-told .given .1)
 
 returns-2 : tie.Need-returns-2
-returns-2 c = text-one _ (c .before .before .f .given .1) (c .text-at .ensures)
+returns-2 c = text-one _ (c .before .before .f .given .1) (c .string-bytes .ensures)
 
 returns-3 : tie.Need-returns-3
 returns-3 c = text-twice _ (c .before .enum-told2 .given .1)
@@ -37,7 +37,7 @@ text-in-spec =
     enum-told
     slice-aggregate-result
     enum-known-f
-    text-at-requires
+    string-bytes-requires
     enum-told-2
     slice-aggregate-result-2
     returns

@@ -4,8 +4,11 @@ use borrow.Author.Needs.{needs}
 use Rattle.json.proofs.is_container.Statement.{statement}
 use Rattle.json.proofs.is_container.Tie as tie
 
-document-requires : tie.Need-document-requires
-document-requires c κs = search needs
+slice-aggregate-mark : tie.Need-slice-aggregate-mark
+slice-aggregate-mark c = search needs
+
+mark-requires : tie.Need-mark-requires
+mark-requires c κs = search needs
 
 enum-told : tie.Need-enum-told
 enum-told c = search needs
@@ -23,16 +26,17 @@ is-opening-requires : tie.Need-is-opening-requires
 is-opening-requires c κs = search needs
 
 returns : tie.Need-returns
-returns c = container-bad _ _ (sym (c .before .before .document .ensures) ∙ c .enum-told .given .1)
+returns c = container-bad _ _ (sym (c .before .before .before .mark .ensures .is) ∙ c .enum-told .given .1)
 
 returns-2 : tie.Need-returns-2
-returns-2 c = c .is-opening .ensures ∙ container-end _ _ _ (sym (c .before .before .before .before .before .document .ensures) ∙ c .before .before .before .enum-told2 .given .1) (c .before .before .skip .ensures .is) (c .before .peek .ensures)
+returns-2 c = c .is-opening .ensures ∙ container-end _ _ _ (sym (c .before .before .before .before .before .before .mark .ensures .is) ∙ c .before .before .before .enum-told2 .given .1) (c .before .before .skip .ensures .is) (c .before .peek .ensures)
 
 pub is-container-spec : {M : Type 1} → statement M
 is-container-spec =
     tie.close
     (tie.spec
-    document-requires
+    slice-aggregate-mark
+    mark-requires
     enum-told
     enum-told-2
     skip-requires

@@ -12,8 +12,8 @@ slice-aggregate-result c = search needs
 enum-known-f : tie.Need-enum-known-f
 enum-known-f c = search needs
 
-text-at-requires : tie.Need-text-at-requires
-text-at-requires c κs = search needs
+string-bytes-by-requires : tie.Need-string-bytes-by-requires
+string-bytes-by-requires c κs = search needs
 
 enum-told-2 : tie.Need-enum-told-2
 enum-told-2 c = search needs
@@ -22,13 +22,13 @@ slice-aggregate-result-2 : tie.Need-slice-aggregate-result-2
 slice-aggregate-result-2 c = search needs
 
 returns : tie.Need-returns
-returns c = text-absent _ (c .before .enum-told .given .1)
+returns c = λ h. text-absent _ (c .before .enum-told .given .1)
 
 returns-2 : tie.Need-returns-2
-returns-2 c = text-one _ (c .before .before .f .given .1) (c .text-at .ensures)
+returns-2 c = λ h. text-one _ (c .before .before .f .given .1) (c .string-bytes-by .ensures h)
 
 returns-3 : tie.Need-returns-3
-returns-3 c = text-twice _ (c .before .enum-told2 .given .1)
+returns-3 c = λ h. text-twice _ (c .before .enum-told2 .given .1)
 
 pub format-in-spec : {M : Type 1} → statement M
 format-in-spec =
@@ -37,7 +37,7 @@ format-in-spec =
     enum-told
     slice-aggregate-result
     enum-known-f
-    text-at-requires
+    string-bytes-by-requires
     enum-told-2
     slice-aggregate-result-2
     returns

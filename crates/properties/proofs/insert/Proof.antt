@@ -1,6 +1,7 @@
 use Prim.Native.Nat.{_-_}
 use lib.ListN.{take}
 use mathlib.Core.Path.{refl}
+use Rattle.json.specs.Ends.{Ends}
 use Rattle.properties.specs.Property.{insert}
 use Rattle.properties.specs.Entries.{content, contents}
 use Rattle.properties.proofs.Good.{full}
@@ -8,33 +9,50 @@ use Rattle.properties.proofs.Insertion.{Carrying, carry-start, carry-sw
 use borrow.Author.Needs.{needs}
 use Rattle.properties.proofs.insert.Statement.{statement}
 use Rattle.properties.proofs.insert.Tie as tie
+use Rattle.properties.proofs.insert.Reads as reads
+use Rattle.properties.proofs.insert.Lts as lts
+use Rattle.fields.proofs.string_bytes_by.Reads as string-bytes-by-reads
+use Rattle.properties.proofs.is_full.Reads as is-full-reads
+use Rattle.properties.proofs.takes_place.Reads as takes-place-reads
 
 abbrev Inv-loop : tie.InvT-loop
-Inv-loop s over n items₀ carry₀ placed₀ j₀ items carry placed j = Carrying s n (insert (content s carry₀) (contents s (take n items₀))) items carry placed j
+Inv-loop s e ends over n items₀ node id carry₀ placed₀ j₀ items carry placed j = Carrying (Ends s ends) s n e (insert (content s e) (contents s (take n items₀))) items carry placed j
 
 abbrev μ-loop : tie.MeasureT-loop
-μ-loop s over n items₀ carry₀ placed₀ j₀ items carry placed j = n - j
+μ-loop s e ends over n items₀ node id carry₀ placed₀ j₀ items carry placed j = n - j
 
 is-full-requires : tie.Need-is-full-requires Inv-loop μ-loop
 is-full-requires c κs = search needs
 
 returns : tie.Need-returns Inv-loop μ-loop
-returns c = put-full _ _ _ _ (full (c .before .before .before .before .args .l) _ (c .before .before .before .before .good .1 .1 .0)) (c .before .is-full .ensures) (c .if1 .taken) refl
+returns c = λ h. put-full _ _ _ _ (full (c .before .before .before .before .before .args .l) _ (c .before .before .before .before .before .good .1 .1 .0)) (c .before .is-full .ensures) (c .if1 .taken) refl
+
+string-bytes-by-requires : tie.Need-string-bytes-by-requires Inv-loop μ-loop
+string-bytes-by-requires c κs = search needs
+
+string-bytes-by-requires-2 : tie.Need-string-bytes-by-requires-2 Inv-loop μ-loop
+string-bytes-by-requires-2 c κs = search needs
 
 loop-holds : tie.Need-loop-holds Inv-loop μ-loop
-loop-holds c = carry-start _ _ _ _ (room-for (c .before .before .before .before .args .l .over) _ (c .before .is-full .ensures) (c .if1 .left)) (full (c .before .before .before .before .args .l) _ (c .before .before .before .before .good .1 .1 .0))
+loop-holds c = carry-start _ _ _ _ (room-for (c .before .before .before .before .before .before .before .args .l .over) _ (c .before .before .before .is-full .ensures) (c .before .before .if1 .left)) (full (c .before .before .before .before .before .before .before .args .l) _ (c .before .before .before .before .before .before .before .good .1 .1 .0))
 
-mul-x : tie.Need-mul-x Inv-loop μ-loop
-mul-x c = search needs
+mul-y : tie.Need-mul-y Inv-loop μ-loop
+mul-y c = search needs
 
-array-copy-out-x : tie.Need-array-copy-out-x Inv-loop μ-loop
-array-copy-out-x c = search needs
+array-copy-out-y : tie.Need-array-copy-out-y Inv-loop μ-loop
+array-copy-out-y c = search needs
 
 add-j : tie.Need-add-j Inv-loop μ-loop
 add-j c = search needs
 
 takes-place-requires : tie.Need-takes-place-requires Inv-loop μ-loop
 takes-place-requires c κs = search needs
+
+mul-x : tie.Need-mul-x Inv-loop μ-loop
+mul-x c = search needs
+
+array-copy-out-x : tie.Need-array-copy-out-x Inv-loop μ-loop
+array-copy-out-x c = search needs
 
 mul-items : tie.Need-mul-items Inv-loop μ-loop
 mul-items c = search needs
@@ -46,13 +64,13 @@ loop-less : tie.Need-loop-less Inv-loop μ-loop
 loop-less c = search needs
 
 loop-again : tie.Need-loop-again Inv-loop μ-loop
-loop-again c = carry-swap _ _ _ _ _ _ _ _ (c .before .before .before .before .loop .inv) (c .before .before .before .loop-test .taken) (c .before .takes-place .ensures) (c .if2 .taken)
+loop-again c = carry-swap _ _ _ _ _ _ _ _ _ (c .before .before .before .before .before .loop .inv) (c .before .before .before .before .loop-test .taken) (λ g. c .before .before .takes-place .ensures _ (c .before .before .before .before .before .before .before .string-bytes-by .ensures g) (c .before .before .before .before .before .before .string-bytes-by2 .ensures g) g) (c .before .if2 .taken)
 
 loop-less-2 : tie.Need-loop-less-2 Inv-loop μ-loop
 loop-less-2 c = search needs
 
 loop-again-2 : tie.Need-loop-again-2 Inv-loop μ-loop
-loop-again-2 c = carry-keep _ _ _ _ _ _ _ _ (c .before .before .before .before .loop .inv) (c .before .before .before .loop-test .taken) (c .before .takes-place .ensures) (c .if2 .left)
+loop-again-2 c = carry-keep _ _ _ _ _ _ _ _ _ (c .before .before .before .before .loop .inv) (c .before .before .before .loop-test .taken) (λ g. c .before .takes-place .ensures _ (c .before .before .before .before .before .before .string-bytes-by .ensures g) (c .before .before .before .before .before .string-bytes-by2 .ensures g) g) (c .if2 .left)
 
 mul-items-2 : tie.Need-mul-items-2 Inv-loop μ-loop
 mul-items-2 c = search needs
@@ -60,11 +78,11 @@ mul-items-2 c = search needs
 array-set-from-items-2 : tie.Need-array-set-from-items-2 Inv-loop μ-loop
 array-set-from-items-2 c = search needs
 
-add-t22 : tie.Need-add-t22 Inv-loop μ-loop
-add-t22 c = search needs
+add-t29 : tie.Need-add-t29 Inv-loop μ-loop
+add-t29 c = search needs
 
 returns-2 : tie.Need-returns-2 Inv-loop μ-loop
-returns-2 c = put-some _ _ _ _ (full (c .before .before .before .before .before .before .args .l) _ (c .before .before .before .before .before .before .good .1 .1 .0)) (c .before .before .before .before .before .before .args .e) (room-over _ (c .before .before .before .before .before .before .args .l .n) (c .before .before .before .is-full .ensures) (c .before .before .if1 .left)) (c .before .loop .inv) (c .loop-test .left) refl refl refl
+returns-2 c = λ h. put-some _ _ _ _ (full (c .before .before .before .before .before .before .before .before .before .args .l) _ (c .before .before .before .before .before .before .before .before .before .good .1 .1 .0)) (c .before .before .before .before .before .before .before .before .before .args .e) (room-over _ (c .before .before .before .before .before .before .before .before .before .args .l .n) (c .before .before .before .before .before .is-full .ensures) (c .before .before .before .before .if1 .left)) (c .before .loop .inv) h (c .loop-test .left) refl refl refl
 
 pub insert-spec : {M : Type 1} → statement M
 insert-spec =
@@ -74,11 +92,15 @@ insert-spec =
     μ-loop
     is-full-requires
     returns
+    string-bytes-by-requires
+    string-bytes-by-requires-2
     loop-holds
-    mul-x
-    array-copy-out-x
+    mul-y
+    array-copy-out-y
     add-j
     takes-place-requires
+    mul-x
+    array-copy-out-x
     mul-items
     array-set-from-items
     loop-less
@@ -87,5 +109,5 @@ insert-spec =
     loop-again-2
     mul-items-2
     array-set-from-items-2
-    add-t22
+    add-t29
     returns-2)

@@ -1,57 +1,58 @@
-use Rattle.properties.proofs.Insertion.{before-yes, before-no, before-ids}
+use Rattle.properties.proofs.Insertion.{before-own, before-yes, before-no, before-ids}
 use borrow.Author.Needs.{needs}
 use Rattle.properties.proofs.is_before.Statement.{statement}
 use Rattle.properties.proofs.is_before.Tie as tie
+use Rattle.properties.proofs.is_before.Reads as reads
+use Rattle.properties.proofs.is_before.Lts as lts
+use Rattle.fields.proofs.string_bytes_by.Reads as string-bytes-by-reads
+use Rattle.text.proofs.precedes.Reads as precedes-reads
+use Rattle.text.proofs.same.Reads as same-reads
 
-text-at-requires : tie.Need-text-at-requires
-text-at-requires c κs = search needs
-
-text-at-requires-2 : tie.Need-text-at-requires-2
-text-at-requires-2 c κs = search needs
+string-bytes-by-requires : tie.Need-string-bytes-by-requires
+string-bytes-by-requires c κs = search needs
 
 precedes-requires : tie.Need-precedes-requires
 precedes-requires c κs = search needs
 
 returns : tie.Need-returns
-returns c = before-yes _ _ _ (c .before .before .before .text-at .ensures) (c .before .before .text-at2 .ensures) (c .before .precedes .ensures) (c .if1 .taken)
+returns c = λ b p q h. before-own _ _ _ _ _ p q (c .before .before .if1 .taken) (c .before .string-bytes-by .ensures h) (c .precedes .ensures)
 
-text-at-requires-3 : tie.Need-text-at-requires-3
-text-at-requires-3 c κs = search needs
-
-text-at-requires-4 : tie.Need-text-at-requires-4
-text-at-requires-4 c κs = search needs
-
-same-requires : tie.Need-same-requires
-same-requires c κs = search needs
-
-text-at-requires-5 : tie.Need-text-at-requires-5
-text-at-requires-5 c κs = search needs
-
-text-at-requires-6 : tie.Need-text-at-requires-6
-text-at-requires-6 c κs = search needs
+string-bytes-by-requires-2 : tie.Need-string-bytes-by-requires-2
+string-bytes-by-requires-2 c κs = search needs
 
 precedes-requires-2 : tie.Need-precedes-requires-2
 precedes-requires-2 c κs = search needs
 
 returns-2 : tie.Need-returns-2
-returns-2 c = before-ids _ _ _ (c .before .before .before .before .before .before .before .before .before .before .text-at .ensures) (c .before .before .before .before .before .before .before .before .before .text-at2 .ensures) (c .before .before .before .before .before .before .before .before .precedes .ensures) (c .before .before .before .before .before .before .before .if1 .left) (c .before .before .before .before .before .before .text-at3 .ensures) (c .before .before .before .before .before .text-at4 .ensures) (c .before .before .before .before .same .ensures) (c .before .before .before .if2 .taken) (c .before .before .text-at5 .ensures) (c .before .text-at6 .ensures) (c .precedes2 .ensures)
+returns-2 c = λ b p q h. before-yes _ _ _ _ _ p q (c .before .before .string-bytes-by2 .ensures h) (c .before .precedes2 .ensures) (c .if2 .taken)
+
+same-requires : tie.Need-same-requires
+same-requires c κs = search needs
+
+string-bytes-by-requires-3 : tie.Need-string-bytes-by-requires-3
+string-bytes-by-requires-3 c κs = search needs
+
+precedes-requires-3 : tie.Need-precedes-requires-3
+precedes-requires-3 c κs = search needs
 
 returns-3 : tie.Need-returns-3
-returns-3 c = before-no _ _ _ (c .before .before .before .before .before .before .before .text-at .ensures) (c .before .before .before .before .before .before .text-at2 .ensures) (c .before .before .before .before .before .precedes .ensures) (c .before .before .before .before .if1 .left) (c .before .before .before .text-at3 .ensures) (c .before .before .text-at4 .ensures) (c .before .same .ensures) (c .if2 .left)
+returns-3 c = λ b p q h. before-ids _ _ _ _ _ p q (c .before .before .before .before .before .before .string-bytes-by2 .ensures h) (c .before .before .before .before .before .precedes2 .ensures) (c .before .before .before .before .if2 .left) (c .before .before .before .same .ensures) (c .before .before .if3 .taken) (c .before .string-bytes-by3 .ensures h) (c .precedes3 .ensures)
+
+returns-4 : tie.Need-returns-4
+returns-4 c = λ b p q h. before-no _ _ _ _ _ p q (c .before .before .before .before .string-bytes-by2 .ensures h) (c .before .before .before .precedes2 .ensures) (c .before .before .if2 .left) (c .before .same .ensures) (c .if3 .left)
 
 pub is-before-spec : {M : Type 1} → statement M
 is-before-spec =
     tie.close
     (tie.spec
-    text-at-requires
-    text-at-requires-2
+    string-bytes-by-requires
     precedes-requires
     returns
-    text-at-requires-3
-    text-at-requires-4
-    same-requires
-    text-at-requires-5
-    text-at-requires-6
+    string-bytes-by-requires-2
     precedes-requires-2
     returns-2
-    returns-3)
+    same-requires
+    string-bytes-by-requires-3
+    precedes-requires-3
+    returns-3
+    returns-4)

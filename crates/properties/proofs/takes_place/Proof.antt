@@ -2,15 +2,18 @@ use Rattle.fields.proofs.Rules.{or-yes, or-no}
 use borrow.Author.Needs.{needs}
 use Rattle.properties.proofs.takes_place.Statement.{statement}
 use Rattle.properties.proofs.takes_place.Tie as tie
+use Rattle.properties.proofs.takes_place.Reads as reads
+use Rattle.properties.proofs.takes_place.Lts as lts
+use Rattle.properties.proofs.is_before.Reads as is-before-reads
 
 returns : tie.Need-returns
-returns c = or-yes _ _ (c .if1 .taken)
+returns c = λ b p q h. or-yes _ _ (c .if1 .taken)
 
 is-before-requires : tie.Need-is-before-requires
 is-before-requires c κs = search needs
 
 returns-2 : tie.Need-returns-2
-returns-2 c = or-no _ _ _ (c .before .if1 .left) (c .is-before .ensures)
+returns-2 c = λ b p q h. or-no _ _ _ (c .before .if1 .left) (c .is-before .ensures b p q h)
 
 pub takes-place-spec : {M : Type 1} → statement M
 takes-place-spec = tie.close (tie.spec returns is-before-requires returns-2)

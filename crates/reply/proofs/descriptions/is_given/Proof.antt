@@ -12,8 +12,8 @@ enum-told c = search needs
 enum-known-f : tie.Need-enum-known-f
 enum-known-f c = search needs
 
-text-at-requires : tie.Need-text-at-requires
-text-at-requires c κs = search needs
+string-bytes-requires : tie.Need-string-bytes-requires
+string-bytes-requires c κs = search needs
 
 enum-told-2 : tie.Need-enum-told-2
 enum-told-2 c = search needs
@@ -23,7 +23,7 @@ unfolding isGiven textOf textIn
 returns c = given-told (c .before .before .before .args .s .now) _ _ (c .enum-told .given .1)
 
 returns-2 : tie.Need-returns-2
-returns-2 c = given-one (c .before .before .before .before .before .args .s .now) _ _ _ (c .before .before .f .given .1) (c .text-at .ensures)
+returns-2 c = given-one (c .before .before .before .before .before .args .s .now) _ _ _ (c .before .before .f .given .1) (c .string-bytes .ensures)
 
 returns-3 : tie.Need-returns-3
 unfolding isGiven textOf textIn
@@ -32,4 +32,4 @@ returns-3 c = given-told (c .before .before .before .args .s .now) _ _ (c .enum-
 pub is-given-spec : {M : Type 1} → statement M
 is-given-spec =
     tie.close
-    (tie.spec enum-told enum-known-f text-at-requires enum-told-2 returns returns-2 returns-3)
+    (tie.spec enum-told enum-known-f string-bytes-requires enum-told-2 returns returns-2 returns-3)
