@@ -91,10 +91,6 @@ pub ws-stop : (s : List ℕ) (at : ℕ) → isWs (byte s at) ≡ false → ws s 
 unfolding ws
 ws-stop s at e = past-stop isWs s at e
 
-pub ws-more : (s : List ℕ) (at : ℕ) → at < length s → isWs (byte s at) ≡ true → ws s (at + 1) ≡ ws s at
-unfolding ws
-ws-more s at h e = past-more isWs s at h e
-
 pub ws-inside : (s : List ℕ) (at : ℕ) → isWs (byte s at) ≡ true → at < length s
 unfolding isWs
 ws-inside s at e = past-inside isWs s at refl e

@@ -2,7 +2,7 @@
 use Prim.Native.Nat.{ℕ, _-_, _≤_, _<_}
 use native.Mathlib.Omega.{arith}
 use mathlib.Core.Path.{_≡_, _∙_, subst}
-use Rattle.json.specs.Bytes.{EndsWithin, Scanned, Between, Moved, Skipped}
+use Rattle.json.specs.Bytes.{EndsWithin, Scanned, Between, Moved}
 use Rattle.json.specs.declared.Scan.{Scan}
 use Rattle.json.specs.declared.Scan.the-variants.{End, Bad}
 
@@ -37,7 +37,3 @@ scanned {lo = lo} {lo′ = lo′} {hi = hi} {r = r} e h k w = record { is = w .i
     go : (q : Scan) → Between lo′ hi q → EndsWithin lo hi q
     go (End j) p = (omega arith, omega arith)
     go (Bad j) p = (omega arith, omega arith)
-
--- a place is the same by another name
-pub skipped : {want want′ lo hi r : ℕ} → want ≡ want′ → Skipped want lo hi r → Skipped want′ lo hi r
-skipped e w = record { is = w .is ∙ e; from = w .from; to = w .to }

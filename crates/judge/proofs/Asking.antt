@@ -50,11 +50,11 @@ onto-short b (suc k) n [] h = omega arith
 onto-short b zero n (p ∷ ps) h = let l = h 0 in omega arith
 onto-short b (suc k) n (p ∷ ps) h = let l = h (suc k) in omega arith
 
-part-short : (sep : ℕ) (s : List ℕ) (k : ℕ) → length (getD (split sep s) k []) ≤ length s
+split-short : (sep : ℕ) (s : List ℕ) (k : ℕ) → length (getD (split sep s) k []) ≤ length s
 unfolding split
-part-short sep [] zero = omega arith
-part-short sep [] (suc k) = omega arith
-part-short sep (b ∷ s) k = pick (eqb b sep) k (λ j. part-short sep s j)
+split-short sep [] zero = omega arith
+split-short sep [] (suc k) = omega arith
+split-short sep (b ∷ s) k = pick (eqb b sep) k (λ j. split-short sep s j)
   where
     pick : (t : Bool) (j : ℕ) → ((i : ℕ) → length (getD (split sep s) i []) ≤ length s) → length (getD (cond t ([] ∷ split sep s) (onto b (split sep s))) j []) ≤ suc (length s)
     pick true zero h = omega arith
@@ -63,7 +63,7 @@ part-short sep (b ∷ s) k = pick (eqb b sep) k (λ j. part-short sep s j)
 
 pub word-short : (line : List ℕ) (k : ℕ) → length (wordAt line k) ≤ length line
 unfolding wordAt words
-word-short line k = part-short 32 line k
+word-short line k = split-short 32 line k
 
 -- ---- bytes of a word, decoded into memory with room for all of them
 
@@ -170,10 +170,10 @@ pub append-says : (m : List ℕ) (u t : ℕ) (topic : List ℕ) (b : Bool) (payl
 unfolding ofAppend
 append-says m u t topic b payload p = rw (p .memory, p .answer) (after-told m (appended m u (event t topic b payload)))
 
--- ---- parts of the input
+-- ---- slices of the input
 
-pub part-fits : (t : List ℕ) (s e : ℕ) → length t ≤ 65536 → length (slice t s e) ≤ 65536
-part-fits t s e h = simp (length-take, length-drop) (omega arith)
+pub slice-fits : (t : List ℕ) (s e : ℕ) → length t ≤ 65536 → length (slice t s e) ≤ 65536
+slice-fits t s e h = simp (length-take, length-drop) (omega arith)
 
 pub input-fits : (r : Input) (d : List ℕ) (n : ℕ) → FitsBuffer r d → r ≡ Input.Bytes n → n < length d
 input-fits r d n p e = rw e at p

@@ -119,8 +119,8 @@ unfolding threeIds
 three-is x y z = refl
 
 -- an event
-part-of : (f : List ℕ) (a n : ℕ) → slice f a (a + n) ≡ take n (drop a f)
-part-of f a n = rw add-sub-cancel-left
+slice-of : (f : List ℕ) (a n : ℕ) → slice f a (a + n) ≡ take n (drop a f)
+slice-of f a n = rw add-sub-cancel-left
 
 pub adds-event : (f : List ℕ) (e : EventAt) {d0 d1 d2 d3 d4 d5 t p : List ℕ} {r1 r2 r3 r4 r5 : ℕ}
     → Puts d0 0 (decimalText (e .time)) r1 d1 → Puts d1 r1 (ascii " ") r2 d2 → t ≡ slice f (e .topic) (e .topic + e .tlen) → Puts d2 r2 (hexOf t) r3 d3
@@ -130,5 +130,5 @@ unfolding eventText shown
 adds-event f e {d0} {d1} {d2} {d3} {d4} {d5} {t} {p} {r1} {r2} {r3} {r4} {r5} a b k c g l h =
     adds-then (put-adds d0 0 (decimalText (e .time)) a)
     (adds-then (put-adds d1 r1 (ascii " ") b)
-    (adds-then (put-adds d2 r2 (hexOf (take (e .tlen) (drop (e .topic) f))) (rw (k, part-of) at c))
-    (adds-then g (put-adds d4 r4 (hexOf (take (e .plen) (drop (e .payload) f))) (rw (l, part-of) at h)))))
+    (adds-then (put-adds d2 r2 (hexOf (take (e .tlen) (drop (e .topic) f))) (rw (k, slice-of) at c))
+    (adds-then g (put-adds d4 r4 (hexOf (take (e .plen) (drop (e .payload) f))) (rw (l, slice-of) at h)))))

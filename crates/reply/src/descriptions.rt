@@ -11,6 +11,9 @@ use payload::Format;
 use properties::Entries;
 use properties::Entry;
 
+// As an index.
+const PROPERTIES_MOST: usize = device::PROPERTIES_MOST as usize;
+
 fn presence_of(f: Field) -> u64
     ensures { λ r. ⌜ r ≡ presence f ⌝ }
 {
@@ -128,7 +131,7 @@ fn tell_item(out: &mut [u64], s: &[u8], l: Entries, i: usize) -> u8
     if i >= l.n {
         return 3;
     }
-    if i >= 24 {
+    if i >= PROPERTIES_MOST {
         return 3;
     }
     let items = l.items;

@@ -28,13 +28,13 @@ module _ (sep : ℕ) (s : List ℕ) (e : ℕ) where
   unfolding firstLen
   first-end h = rw (h, drop-length)
 
-pub part-none : (sep : ℕ) (s : List ℕ) (at : ℕ) → length s < at → Nothing ≡ partAt sep s at
+pub partAt-none : (sep : ℕ) (s : List ℕ) (at : ℕ) → length s < at → Nothing ≡ partAt sep s at
 unfolding partAt
-part-none sep s at h = rw (lt-leb at (length s) h)
+partAt-none sep s at h = rw (lt-leb at (length s) h)
 
-pub part-at : (sep : ℕ) (s : List ℕ) (at e : ℕ) → at ≤ length s → at + firstLen sep (drop at s) ≡ e → Found at e (e + 1) ≡ partAt sep s at
+pub partAt-found : (sep : ℕ) (s : List ℕ) (at e : ℕ) → at ≤ length s → at + firstLen sep (drop at s) ≡ e → Found at e (e + 1) ≡ partAt sep s at
 unfolding partAt
-part-at sep s at e h k = rw (le-leb at (length s) h, k)
+partAt-found sep s at e h k = rw (le-leb at (length s) h, k)
 
 -- what `partAt` says where it found a part
 pub record IsPart (sep : ℕ) (t : List ℕ) (at s e n : ℕ) : Type 0 where
@@ -89,8 +89,8 @@ split-first sep (b ∷ s) = pick (eqb b sep) (split-first sep s)
     pick false h = rw (h, leb·suc-suc)
 
 -- the part that stands between the two places is the first of what starts there
-pub part-is : (sep : ℕ) (t : List ℕ) (at s e n : ℕ) → IsPart sep t at s e n → slice t s e ≡ take (firstLen sep (drop at t)) (drop at t)
-part-is sep t at s e n p = rw (p .start, p .end, add-sub-cancel-left)
+pub slice-first : (sep : ℕ) (t : List ℕ) (at s e n : ℕ) → IsPart sep t at s e n → slice t s e ≡ take (firstLen sep (drop at t)) (drop at t)
+slice-first sep t at s e n p = rw (p .start, p .end, add-sub-cancel-left)
 
 -- a found part stands first in the splitting of what starts there, and the splitting goes on at `next`
 module _ (sep : ℕ) (t : List ℕ) (at s e n : ℕ) (p : IsPart sep t at s e n) where
@@ -99,10 +99,10 @@ module _ (sep : ℕ) (t : List ℕ) (at s e n : ℕ) (p : IsPart sep t at s e n)
   split-more h =
       let f = firstLen sep (drop at t) in
       let k : at + suc f ≡ n = omega (arith, p .next, p .end) in
-      split-first sep (drop at t) ∙ rw (part-is sep t at s e n p, lt-ltb f (length (drop at t)) (omega (arith, length-drop at t)), drop-drop (suc f) at t, k)
+      split-first sep (drop at t) ∙ rw (slice-first sep t at s e n p, lt-ltb f (length (drop at t)) (omega (arith, length-drop at t)), drop-drop (suc f) at t, k)
 
   pub split-last : length t < n → split sep (drop at t) ≡ slice t s e ∷ []
   unfolding others
   split-last h =
       let f = firstLen sep (drop at t) in
-      split-first sep (drop at t) ∙ rw (part-is sep t at s e n p, le-ltb f (length (drop at t)) (omega (arith, length-drop at t, p .next, p .end)))
+      split-first sep (drop at t) ∙ rw (slice-first sep t at s e n p, le-ltb f (length (drop at t)) (omega (arith, length-drop at t, p .next, p .end)))

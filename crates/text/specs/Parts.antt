@@ -1,5 +1,5 @@
 -- What private functions compute: tests of several bytes at once, and the UTF-8 check.
-use Prim.Native.Nat.{ℕ, zero, suc, _+_, _*_, _≤_, _<_}
+use Prim.Native.Nat.{ℕ, zero, suc, _+_, _≤_, _<_}
 use mathlib.Core.Path.{_≡_}
 use mathlib.Core.List.{List, [], _∷_}
 use mathlib.Core.Bool.{Bool, true, false, cond}
@@ -40,21 +40,6 @@ pub record Shorter (a b : List ℕ) (n : ℕ) : Type 0 where
   pub left : n ≤ length a
   pub right : n ≤ length b
   pub ends : n < length b → length a ≤ n
-
--- ---- several bytes as one number
-
--- the lowest first
-abbrev pub word4 : List ℕ → ℕ → ℕ
-word4 s i = getD s i 0 + getD s (i + 1) 0 * 0x100 + getD s (i + 2) 0 * 0x10000 + getD s (i + 3) 0 * 0x1000000
-
-pub record Word4 (s : List ℕ) (i r : ℕ) : Type 0 where
-  pub is : r ≡ word4 s i
-  pub small : r < 0x100000000
-  pub bytes : (k : ℕ) → getD s k 0 < 0x100
-
-pub record Word8 (s : List ℕ) (i r : ℕ) : Type 0 where
-  pub is : r ≡ word4 s i + word4 s (i + 4) * 0x100000000
-  pub bytes : (k : ℕ) → getD s k 0 < 0x100
 
 -- ---- a byte at a time
 

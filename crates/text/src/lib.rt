@@ -7,7 +7,7 @@ ghost use mathlib.Core.Logic.{_↔_};
 ghost use mathlib.Core.Bool.{true};
 ghost use Rattle.abnf.specs.Abnf.{_∈_};
 ghost use Rattle.text.specs.Utf8.{UTF8-octets, startsBom, isText};
-ghost use Rattle.text.specs.Parts.{Decides, Word4, Word8, Shorter, IdBytes, Ascii, AsciiRun, low, high, ByteIn, Begins, Reads};
+ghost use Rattle.text.specs.Parts.{Decides, Shorter, IdBytes, Ascii, AsciiRun, low, high, ByteIn, Begins, Reads};
 ghost use Prim.Native.Nat.{_+_, _≤_, _<_};
 ghost use lib.ListN.{length, getD};
 
@@ -236,42 +236,19 @@ impl Id {
     }
 }
 
-// A byte as a number of 64 bits.
-fn wide(b: u8) -> u64
-    ensures { λ r. ⌜ (r ≡ b) × (r < 0x100) ⌝ }
-{
-    b as u64
-}
-
-// The four bytes from `i` on as one number, the lowest first: the compiler loads them at once.
-fn word_4(s: &[u8], i: usize) -> u64
-    requires { ⌜ i + 4 ≤ length (now s) ⌝ }
-    ensures { λ r. ⌜ Word4 (now (s .entry)) i r ⌝ }
-{
-    wide(s[i]) + wide(s[i + 1]) * 0x100 + wide(s[i + 2]) * 0x10000 + wide(s[i + 3]) * 0x1000000
-}
-
-// Likewise the eight bytes.
-fn word_8(s: &[u8], i: usize) -> u64
-    requires { ⌜ i + 8 ≤ length (now s) ⌝ }
-    ensures { λ r. ⌜ Word8 (now (s .entry)) i r ⌝ }
-{
-    word_4(s, i) + word_4(s, i + 4) * 0x100000000
-}
-
-// Whether the four bytes from `i` on are ASCII.
+// Whether the four bytes from `i` on are ASCII, by the highest bits of one number.
 fn ascii_4(s: &[u8], i: usize) -> bool
     requires { ⌜ i + 4 ≤ length (now s) ⌝ }
     ensures { λ r. ⌜ (r ≡ true → Ascii (now (s .entry)) i (i + 4)) ⌝ }
 {
-    word_4(s, i) & 0x80808080 == 0
+    little_endian::get(s, i, 4) & 0x80808080 == 0
 }
 
 fn ascii_8(s: &[u8], i: usize) -> bool
     requires { ⌜ i + 8 ≤ length (now s) ⌝ }
     ensures { λ r. ⌜ (r ≡ true → Ascii (now (s .entry)) i (i + 8)) ⌝ }
 {
-    word_8(s, i) & 0x8080808080808080 == 0
+    little_endian::get(s, i, 8) & 0x8080808080808080 == 0
 }
 
 // No branch between the two, so that the compiler tests them at once.

@@ -25,7 +25,7 @@ use Rattle.topic.specs.Topics.{oneOf, dollarId, otherWord, filled, fits,
 use Rattle.text.specs.Places.{bytesAt, Within}
 use Rattle.topic.specs.Meaning.{levelsIn, meaning, Shows, restOf}
 use Rattle.topic.specs.Parts.{levelsFrom, Next, IdAt, WordAt}
-use Rattle.topic.proofs.Levels.{levels-here, levels-past, levels-more, levels-none, found, levels-step, part-rest}
+use Rattle.topic.proofs.Levels.{levels-here, levels-past, levels-more, levels-none, found, levels-step, slice-tail}
 use Rattle.topic.proofs.Rows.{free, no-levels, no-device, broadcast-row, broadcast-bad, broadcast-none, device-alone, node-alone, node-bad, value-row, set-row, target-row, property-bad, property-long, state-fits, description-fits, alert-fits, log-fits, other-fits}
 
 -- an answer without places
@@ -192,7 +192,7 @@ rest-levels test h (b ∷ s) k = refl
 
 pub rest-is : (test : List ℕ → Bool) → test [] ≡ false → (t : List ℕ) (at : ℕ) → at ≤ length t → each test (levelsFrom t at) ≡ true
     → levelsIn (slice t at (length t)) ≡ levelsFrom t at
-rest-is test h t at k e = rw (part-rest t at, levels-here t at k) (rest-levels test h (drop at t) (rw (levels-here t at k) at e))
+rest-is test h t at k e = rw (slice-tail t at, levels-here t at k) (rest-levels test h (drop at t) (rw (levels-here t at k) at e))
 
 -- `$broadcast`
 module _ (t : List ℕ) (at b : ℕ) where

@@ -48,8 +48,8 @@ module _ (t : List ℕ) (at : ℕ) where
         pick false h k = split-last slash t at s e n found (k refl)
 
 -- the rest of a topic as one part
-pub part-rest : (t : List ℕ) (at : ℕ) → slice t at (length t) ≡ drop at t
-part-rest t at = take-all (length t - at) (drop at t) (omega (arith, length-drop at t))
+pub slice-tail : (t : List ℕ) (at : ℕ) → slice t at (length t) ≡ drop at t
+slice-tail t at = take-all (length t - at) (drop at t) (omega (arith, length-drop at t))
 
 -- ---- a test of each level, level by level
 module _ (test : List ℕ → Bool) (t : List ℕ) (at i : ℕ) (inv : each test (levelsFrom t at) ≡ each test (levelsFrom t i)) where
@@ -68,13 +68,13 @@ module _ (test : List ℕ → Bool) (t : List ℕ) (at i : ℕ) (inv : each test
     pub each-next : test (slice t s e) ≡ true → each test (levelsFrom t at) ≡ each test (levelsFrom t n)
     each-next h = step ∙ rw h
 
-pub part-empty : (t : List ℕ) (s e : ℕ) → s ≡ e → filled (slice t s e) ≡ false
+pub slice-empty : (t : List ℕ) (s e : ℕ) → s ≡ e → filled (slice t s e) ≡ false
 unfolding filled
-part-empty t s e h = let z : e - s ≡ 0 = omega arith in rw z
+slice-empty t s e h = let z : e - s ≡ 0 = omega arith in rw z
 
-pub part-filled : (t : List ℕ) (s e : ℕ) → s < e → e ≤ length t → filled (slice t s e) ≡ true
+pub slice-filled : (t : List ℕ) (s e : ℕ) → s < e → e ≤ length t → filled (slice t s e) ≡ true
 unfolding filled
-part-filled t s e h k = let z : e - s ≡ suc (e - s - 1) = omega arith in rw (z, drop-cons t s 0 (omega arith))
+slice-filled t s e h k = let z : e - s ≡ suc (e - s - 1) = omega arith in rw (z, drop-cons t s 0 (omega arith))
 
 -- ---- words
 
@@ -106,4 +106,4 @@ dollar-no (b ∷ l) h k = rw (ne-eqb b dollar k)
 pub dollar-tail : (l : List ℕ) → 0 < length l → getD l 0 0 ≡ dollar → isId (slice l 1 (length l)) ≡ dollarId l
 unfolding dollarId
 dollar-tail [] h k = absurd (omega arith)
-dollar-tail (b ∷ l) h k = rw (part-rest (b ∷ l) 1, eq-eqb b dollar k)
+dollar-tail (b ∷ l) h k = rw (slice-tail (b ∷ l) 1, eq-eqb b dollar k)

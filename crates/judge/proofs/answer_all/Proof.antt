@@ -1,4 +1,4 @@
-use Rattle.judge.proofs.Asking.{part-fits}
+use Rattle.judge.proofs.Asking.{slice-fits}
 use Rattle.lines.proofs.Adding.{put-adds}
 use Rattle.text.proofs.Split.{is-part}
 use lib.ListN.{length}
@@ -46,7 +46,7 @@ slice-aggregate-answer : tie.Need-slice-aggregate-answer Inv-loop μ-loop
 slice-aggregate-answer c = c .before .before .before .before .before .before .before .loop .inv
 
 answer-requires : tie.Need-answer-requires Inv-loop μ-loop
-answer-requires c κs = part-fits (c .before .before .before .before .before .before .before .before .before .before .args .input .now) (c .before .before .before .start .given .0 .0) (c .before .before .before .start .given .0 .1 .0) (c .before .before .before .before .before .before .before .before .before .before .pre)
+answer-requires c κs = slice-fits (c .before .before .before .before .before .before .before .before .before .before .args .input .now) (c .before .before .before .start .given .0 .0) (c .before .before .before .start .given .0 .1 .0) (c .before .before .before .before .before .before .before .before .before .before .pre)
 
 slice-aggregate-put : tie.Need-slice-aggregate-put Inv-loop μ-loop
 slice-aggregate-put c = c .before .before .before .before .before .before .before .before .before .before .loop .inv ∙ sym (c .before .before .answer .ensures .size)

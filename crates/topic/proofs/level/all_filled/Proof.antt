@@ -4,7 +4,7 @@ use lib.ListN.{length}
 use native.Mathlib.Omega.{arith}
 use Rattle.topic.specs.Topics.{each, filled}
 use Rattle.topic.specs.Parts.{levelsFrom}
-use Rattle.topic.proofs.Levels.{found, each-end, each-stop, each-next, part-empty, part-filled}
+use Rattle.topic.proofs.Levels.{found, each-end, each-stop, each-next, slice-empty, slice-filled}
 use borrow.Author.Needs.{needs}
 use Rattle.topic.proofs.level.all_filled.Statement.{statement}
 use Rattle.topic.proofs.level.all_filled.Tie as tie
@@ -31,13 +31,13 @@ returns : tie.Need-returns Inv-loop μ-loop
 returns c = each-end filled _ _ _ (c .before .before .before .loop .inv) (sym (c .enum-told .given .1) ∙ c .before .before .next-part .ensures)
 
 returns-2 : tie.Need-returns-2 Inv-loop μ-loop
-returns-2 c = each-stop filled _ _ _ (c .before .before .before .before .before .loop .inv) _ _ _ (sym (c .before .before .start .given .1) ∙ c .before .before .before .before .next-part .ensures) (part-empty _ _ _ (c .if1 .taken))
+returns-2 c = each-stop filled _ _ _ (c .before .before .before .before .before .loop .inv) _ _ _ (sym (c .before .before .start .given .1) ∙ c .before .before .before .before .next-part .ensures) (slice-empty _ _ _ (c .if1 .taken))
 
 loop-less : tie.Need-loop-less Inv-loop μ-loop
 loop-less c = let p = found _ _ _ _ _ (sym (c .before .before .start .given .1) ∙ c .before .before .before .before .next-part .ensures) in omega arith
 
 loop-again : tie.Need-loop-again Inv-loop μ-loop
-loop-again c = let p = found _ _ _ _ _ (sym (c .before .before .start .given .1) ∙ c .before .before .before .before .next-part .ensures) in each-next filled _ _ _ (c .before .before .before .before .before .loop .inv) _ _ _ (sym (c .before .before .start .given .1) ∙ c .before .before .before .before .next-part .ensures) (part-filled _ _ _ (omega arith) (p .within))
+loop-again c = let p = found _ _ _ _ _ (sym (c .before .before .start .given .1) ∙ c .before .before .before .before .next-part .ensures) in each-next filled _ _ _ (c .before .before .before .before .before .loop .inv) _ _ _ (sym (c .before .before .start .given .1) ∙ c .before .before .before .before .next-part .ensures) (slice-filled _ _ _ (omega arith) (p .within))
 
 pub all-filled-spec : {M : Type 1} → statement M
 all-filled-spec =
