@@ -17,17 +17,16 @@ static void print_bytes(const uint8_t *s, uint64_t start, uint64_t end)
     fwrite(s + start, 1, (size_t)(end - start), stdout);
 }
 
-static int refused(unsigned number)
+static void refused(uint32_t returned)
 {
-    printf("refused %u\n", number);
-    return 0;
+    printf("refused %u\n", HOMIE5_NUMBER(returned));
 }
 
 static void print_event(const uint8_t *file, size_t len, size_t i)
 {
     uint64_t event[HOMIE5_VALUES];
     uint64_t topic[HOMIE5_VALUES];
-    unsigned r = homie5_trace_read(file, len, i, event, HOMIE5_VALUES);
+    uint32_t r = homie5_trace_read(file, len, i, event, HOMIE5_VALUES);
     if (r != HOMIE5_OK) {
         refused(r);
         return;
@@ -48,7 +47,7 @@ int main(void)
     uint8_t *file = malloc(LIMIT + 1);
     uint64_t out[HOMIE5_VALUES];
     size_t len;
-    unsigned r;
+    uint32_t r;
     if (file == NULL)
         return 1;
     len = fread(file, 1, LIMIT + 1, stdin);

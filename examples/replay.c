@@ -39,8 +39,8 @@ static void send(uint8_t *mem, size_t size, const uint8_t *file, size_t i, const
 {
     bytes topic = part(file, event + 1);
     bytes payload = part(file, event + 4);
-    unsigned answer = homie5_message(mem, size, event[0], topic.start, topic.len, (uint8_t)event[3], payload.start, payload.len);
-    printf("%zu %" PRIu64 " %u\n", i, event[0], answer);
+    uint32_t answer = homie5_message(mem, size, event[0], topic.start, topic.len, (uint8_t)event[3], payload.start, payload.len);
+    printf("%zu %" PRIu64 " %u\n", i, event[0], HOMIE5_NUMBER(answer));
 }
 
 static void send_all(uint8_t *mem, size_t size, const uint8_t *file, size_t len)
@@ -56,7 +56,7 @@ static void send_all(uint8_t *mem, size_t size, const uint8_t *file, size_t len)
 static void print_lane(const uint8_t *mem, size_t size, bytes id, bytes node, bytes property, uint8_t lane)
 {
     uint64_t held[HOMIE5_VALUES];
-    unsigned r = homie5_lane(mem, size, id.start, id.len, node.start, node.len, property.start, property.len, lane, held, HOMIE5_VALUES);
+    uint32_t r = homie5_lane(mem, size, id.start, id.len, node.start, node.len, property.start, property.len, lane, held, HOMIE5_VALUES);
     putchar(' ');
     if (r == HOMIE5_OK && held[0])
         print_hex(part(mem, held + 2));
@@ -98,11 +98,11 @@ static void print_table(const uint8_t *mem, size_t size)
         printf("steps %" PRIu64 "\n", out[0]);
 }
 
-/* Checks the file and replays it. Returns the number of a refusal, or HOMIE5_OK. */
-static unsigned replay(uint8_t *mem, size_t size, const uint8_t *file, size_t len)
+/* Checks the file and replays it. Returns the refusal, or HOMIE5_OK. */
+static uint32_t replay(uint8_t *mem, size_t size, const uint8_t *file, size_t len)
 {
     uint64_t count[1];
-    unsigned r = len > LIMIT ? HOMIE5_BAD_HEADER : homie5_trace_check(file, len, count, 1);
+    uint32_t r = len > LIMIT ? HOMIE5_BAD_HEADER : homie5_trace_check(file, len, count, 1);
     if (r == HOMIE5_OK)
         r = homie5_open(mem, size, (const uint8_t *)"homie", 5, DEVICES, DEPTH);
     if (r != HOMIE5_OK)
@@ -120,9 +120,9 @@ int main(void)
     uint8_t *file = malloc(LIMIT + 1);
     int failed = mem == NULL || file == NULL;
     if (!failed) {
-        unsigned r = replay(mem, size, file, fread(file, 1, LIMIT + 1, stdin));
+        uint32_t r = replay(mem, size, file, fread(file, 1, LIMIT + 1, stdin));
         if (r != HOMIE5_OK)
-            printf("refused %u\n", r);
+            printf("refused %u\n", HOMIE5_NUMBER(r));
     }
     free(file);
     free(mem);

@@ -83,6 +83,11 @@ pub fn description(own: &str) -> String {
     description_of(own, "", &nodes("", 12))
 }
 
+/// The same with a fault at its end: the datatype of the last property is none.
+pub fn faulty_description(own: &str) -> String {
+    description(own).replace(property("uptime").object, r#""datatype":"durations""#)
+}
+
 /// A description of nearly 8,192 bytes with 24 properties.
 pub fn long_description(own: &str) -> String {
     let text = |name: usize| description_of(own, "", &[nodes("", name), nodes("second-", name)].concat());

@@ -5,6 +5,7 @@
 //! many they were, for counting instructions.
 
 mod data;
+mod describe;
 mod house;
 mod measure;
 mod ours;

@@ -1,7 +1,8 @@
 //! The table as one would write it straight away: the devices sorted by ID, each message applied to them, and for each
-//! step back what the message replaced. The rules for topics, payloads and descriptions are the second program's.
+//! step back what the message replaced. The rules for topics and payloads are the second program's.
 
-use reference::description::{self, Description, Property};
+use crate::describe;
+use reference::description::{Description, Property};
 use reference::payload::is_payload;
 use reference::refusal::*;
 use reference::table::{Lane, LaneKind, STATES};
@@ -133,7 +134,7 @@ impl Table {
         let rank = self.rank(id)?;
         let new = match payload {
             [] => None,
-            _ => Some(description::read(id, payload).ok_or(DESCRIPTION)?),
+            _ => Some(describe::read(id, payload)?),
         };
         let device = &mut self.devices[rank];
         let old = replace(&mut device.description, new);

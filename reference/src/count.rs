@@ -1,7 +1,7 @@
 //! `count`: how often each kind of answer stands in the output of the line
 //! programs. Every refusal number is listed, also with 0.
 
-use crate::refusal::LAST;
+use crate::refusal::ALL;
 use std::collections::BTreeMap;
 
 /// Answers that are counted by their first word.
@@ -32,16 +32,18 @@ pub fn run(input: &[u8]) -> String {
     for line in text.lines() {
         *counts.entry(kind(line)).or_default() += 1;
     }
-    let refusals = (1..=LAST).map(|number| format!("refused {number}"));
-    let others: Vec<String> = counts.keys().filter(|kind| !kind.starts_with("refused ")).cloned().collect();
-    let line = |kind: String| format!("{kind}: {}\n", counts.get(&kind).unwrap_or(&0));
-    refusals.chain(others).map(line).collect()
+    let refusals: Vec<String> = ALL.iter().map(|refusal| format!("refused {refusal}")).collect();
+    let others = counts.keys().filter(|kind| !refusals.contains(kind));
+    let line = |kind: &String| format!("{kind}: {}\n", counts.get(kind).unwrap_or(&0));
+    refusals.iter().chain(others).map(line).collect()
 }
 
+/// Of a refusal the number, without the place.
 fn kind(line: &str) -> String {
-    let first = line.split(' ').next().unwrap_or("");
-    if line.starts_with("refused ") {
-        line.to_string()
+    let words: Vec<&str> = line.split(' ').collect();
+    let first = words[0];
+    if first == "refused" {
+        words[..words.len().min(2)].join(" ")
     } else if WORDS.contains(&first) {
         first.to_string()
     } else {
@@ -53,8 +55,11 @@ fn kind(line: &str) -> String {
 mod tests {
     #[test]
     fn counts() {
-        let output = super::run(b"refused 3\nyes\nrefused 3\n12 - 1 -\n?\n");
+        let output = super::run(b"refused 3\nyes\nrefused 3\nrefused 22 7\nrefused 22 17\n12 - 1 -\n?\n");
         assert!(output.starts_with("refused 1: 0\nrefused 2: 0\nrefused 3: 2\n"));
-        assert!(output.ends_with("refused 18: 0\n?: 1\nan answer with a value: 1\nyes: 1\n"));
+        assert!(output.contains("refused 14: 0\nrefused 16: 0\nrefused 17: 0\nrefused 18: 0\nrefused 21: 0\n"));
+        assert!(output.ends_with(
+            "refused 22: 2\nrefused 23: 0\nrefused 24: 0\nrefused 25: 0\n?: 1\nan answer with a value: 1\nyes: 1\n"
+        ));
     }
 }

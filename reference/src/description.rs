@@ -1,10 +1,10 @@
 //! The description of a device.
 
-use crate::json::{self, Value};
+use crate::faults;
+use crate::json::{self, Member, Object, Value};
 use crate::numbers::integer;
-use crate::payload::{is_format, Datatype};
-use crate::text::is_id;
-use std::collections::BTreeSet;
+use crate::payload::Datatype;
+use crate::refusal::Refusal;
 
 /// The most bytes of a description.
 pub const DESCRIPTION_LIMIT: usize = 8192;
@@ -31,176 +31,62 @@ pub struct Property {
     pub retained: bool,
 }
 
-/// Reads the description of the device with this ID; none if it is not valid.
-pub fn read(own: &[u8], text: &[u8]) -> Option<Description> {
-    if text.len() > DESCRIPTION_LIMIT {
-        return None;
+/// Reads the description of the device with this ID, or tells its first fault.
+pub fn read(own: &[u8], text: &[u8]) -> Result<Description, Refusal> {
+    match faults::first(own, text) {
+        Some(fault) => Err(fault),
+        None => Ok(declared(text).expect("a description without faults")),
     }
+}
+
+/// What a description without faults declares.
+fn declared(text: &[u8]) -> Option<Description> {
     let value = json::read(text)?;
-    let device = Fields::of(&value)?;
-    check_homie(device.plain_text("homie")??)?;
-    check_device_rest(&device)?;
-    let description = Description {
-        version: version(&device)?,
-        root: other_id(&device, "root", own)?,
-        parent: other_id(&device, "parent", own)?,
-        properties: properties(&device)?,
-    };
-    check_whole(&description)?;
-    Some(description)
-}
-
-fn check_whole(description: &Description) -> Option<()> {
-    let rooted = description.parent.is_none() || description.root.is_some();
-    (rooted && description.properties.len() <= PROPERTY_LIMIT).then_some(())
-}
-
-/// The fields whose values are judged but not kept.
-fn check_device_rest(device: &Fields) -> Option<()> {
-    device.text("name")?;
-    device.text("type")?;
-    check_list(device, "children", is_id)?;
-    check_list(device, "extensions", |_| true)
-}
-
-/// `5.` and 1 to 3 digits, without a leading zero unless it is `0`.
-fn check_homie(text: &[u8]) -> Option<()> {
-    let minor = text.strip_prefix(b"5.")?;
-    let digits = (1..=3).contains(&minor.len()) && minor.iter().all(u8::is_ascii_digit);
-    (digits && (minor == b"0" || minor[0] != b'0')).then_some(())
-}
-
-/// A number without fraction or exponent, signed 64-bit.
-fn version(device: &Fields) -> Option<i64> {
-    match device.get("version")?? {
-        Value::Number(text) => integer(text),
-        _ => None,
-    }
-}
-
-/// An ID that is not the device's own, if the field is there.
-fn other_id(device: &Fields, name: &str, own: &[u8]) -> Option<Option<Vec<u8>>> {
-    match device.plain_text(name)? {
-        None => Some(None),
-        Some(id) => (is_id(id) && id != own).then(|| Some(id.to_vec())),
-    }
-}
-
-/// An array of strings that are all good, if the field is there.
-fn check_list(device: &Fields, name: &str, good: impl Fn(&[u8]) -> bool) -> Option<()> {
-    match device.get(name)? {
-        None => Some(()),
-        Some(Value::Array(items)) => {
-            let good = |item: &Value| matches!(item, Value::Text(text) if good(text));
-            items.iter().all(good).then_some(())
-        }
-        Some(_) => None,
-    }
+    let device = value.object()?;
+    let id = |name: &[u8]| device.value(name).and_then(Value::text).map(<[u8]>::to_vec);
+    Some(Description {
+        version: integer(device.value(b"version")?.number()?)?,
+        root: id(b"root"),
+        parent: id(b"parent"),
+        properties: properties(device)?,
+    })
 }
 
 /// All properties of all nodes, in order.
-fn properties(device: &Fields) -> Option<Vec<Property>> {
+fn properties(device: &Object) -> Option<Vec<Property>> {
     let mut all = Vec::new();
-    for (id, value) in by_id(device.get("nodes")?)? {
-        all.extend(node_properties(id, value)?);
+    for node in members(device, b"nodes") {
+        for property in members(node.value.object()?, b"properties") {
+            all.push(declared_property(&node.name, property)?);
+        }
     }
     all.sort_by(|a, b| (&a.node, &a.id).cmp(&(&b.node, &b.id)));
     Some(all)
 }
 
-fn node_properties(id: &[u8], value: &Value) -> Option<Vec<Property>> {
-    let node = Fields::of(value)?;
-    node.text("name")?;
-    node.text("type")?;
-    let list = by_id(node.get("properties")?)?;
-    list.iter().map(|(property, value)| read_property(id, property, value)).collect()
+/// The members of an object that is a field's value; none if it is not there.
+fn members<'a>(object: &'a Object, name: &[u8]) -> &'a [Member] {
+    object.value(name).and_then(Value::object).map_or(&[], |object| &object.members)
 }
 
-fn read_property(node: &[u8], id: &[u8], value: &Value) -> Option<Property> {
-    let property = Fields::of(value)?;
-    property.text("name")?;
-    property.text("unit")?;
-    let datatype = Datatype::from_word(property.plain_text("datatype")??)?;
+fn declared_property(node: &[u8], member: &Member) -> Option<Property> {
+    let fields = member.value.object()?;
+    let flag = |name: &[u8]| fields.value(name).and_then(Value::flag);
+    let datatype = Datatype::from_word(fields.value(b"datatype")?.text()?)?;
     Some(Property {
         node: node.to_vec(),
-        id: id.to_vec(),
+        id: member.name.clone(),
         datatype,
-        format: kept_format(&property, datatype)?,
-        settable: property.flag("settable", false)?,
-        retained: property.flag("retained", true)?,
+        format: kept_format(fields, datatype)?,
+        settable: flag(b"settable").unwrap_or(false),
+        retained: flag(b"retained").unwrap_or(true),
     })
 }
 
-fn kept_format(property: &Fields, datatype: Datatype) -> Option<Vec<u8>> {
-    if !datatype.keeps_format() {
-        property.text("format")?;
-        return Some(Vec::new());
-    }
-    match property.plain_text("format")? {
-        None => datatype.missing_format().map(<[u8]>::to_vec),
-        Some(format) => is_format(datatype, format).then(|| format.to_vec()),
-    }
-}
-
-/// The members of an object whose names are IDs, none of them twice; a
-/// missing object has none.
-fn by_id(value: Option<&Value>) -> Option<Vec<(&[u8], &Value)>> {
-    let members = match value {
-        None => return Some(Vec::new()),
-        Some(Value::Object(members)) => members,
-        Some(_) => return None,
-    };
-    let names: BTreeSet<&[u8]> = members.iter().map(|(name, _)| name.as_slice()).collect();
-    let good = names.len() == members.len() && names.iter().all(|name| is_id(name));
-    good.then(|| members.iter().map(|(name, value)| (name.as_slice(), value)).collect())
-}
-
-/// The members of a device, node or property object. No name has a backslash.
-///
-/// Each question answers none when the object breaks a rule, and some none
-/// when the field is not there.
-struct Fields<'a>(&'a [(Vec<u8>, Value)]);
-
-impl<'a> Fields<'a> {
-    fn of(value: &'a Value) -> Option<Fields<'a>> {
-        match value {
-            Value::Object(members) if members.iter().all(|(name, _)| is_plain(name)) => Some(Fields(members)),
-            _ => None,
-        }
-    }
-
-    /// A known field, which may not stand twice.
-    fn get(&self, name: &str) -> Option<Option<&'a Value>> {
-        let mut found = self.0.iter().filter(|(other, _)| other == name.as_bytes());
-        let first = found.next().map(|(_, value)| value);
-        found.next().is_none().then_some(first)
-    }
-
-    fn text(&self, name: &str) -> Option<Option<&'a [u8]>> {
-        match self.get(name)? {
-            None => Some(None),
-            Some(Value::Text(text)) => Some(Some(text)),
-            Some(_) => None,
-        }
-    }
-
-    /// A string that may not have a backslash.
-    fn plain_text(&self, name: &str) -> Option<Option<&'a [u8]>> {
-        let text = self.text(name)?;
-        text.is_none_or(is_plain).then_some(text)
-    }
-
-    fn flag(&self, name: &str, missing: bool) -> Option<bool> {
-        match self.get(name)? {
-            None => Some(missing),
-            Some(Value::Bool(flag)) => Some(*flag),
-            Some(_) => None,
-        }
-    }
-}
-
-fn is_plain(text: &[u8]) -> bool {
-    !text.contains(&b'\\')
+fn kept_format(property: &Object, datatype: Datatype) -> Option<Vec<u8>> {
+    let given = property.value(b"format").and_then(Value::text);
+    let kept = given.filter(|_| datatype.keeps_format()).or(datatype.missing_format());
+    kept.map(<[u8]>::to_vec)
 }
 
 #[cfg(test)]
@@ -208,7 +94,7 @@ mod tests {
     use super::*;
 
     fn valid(text: &str) -> bool {
-        read(b"lamp", text.as_bytes()).is_some()
+        read(b"lamp", text.as_bytes()).is_ok()
     }
 
     /// A description with these fields beside the required two.

@@ -5,16 +5,87 @@ use crate::text::is_utf8;
 /// The most arrays and objects that stand inside each other.
 pub const NESTING: usize = 16;
 
-/// A JSON value. Numbers and strings are kept as sent, strings without their
-/// quotation marks and with their escapes as they stand.
+/// A JSON value with the place of its first byte.
 #[derive(Clone, Debug, PartialEq, Eq)]
-pub enum Value {
+pub struct Value {
+    pub place: usize,
+    pub kind: Kind,
+}
+
+/// Numbers and strings are kept as sent, strings without their quotation marks
+/// and with their escapes as they stand.
+#[derive(Clone, Debug, PartialEq, Eq)]
+pub enum Kind {
     Null,
     Bool(bool),
     Number(Vec<u8>),
     Text(Vec<u8>),
     Array(Vec<Value>),
-    Object(Vec<(Vec<u8>, Value)>),
+    Object(Object),
+}
+
+#[derive(Clone, Debug, PartialEq, Eq)]
+pub struct Object {
+    pub members: Vec<Member>,
+    /// The place of the closing brace.
+    pub end: usize,
+}
+
+#[derive(Clone, Debug, PartialEq, Eq)]
+pub struct Member {
+    /// The place of the name's opening quote.
+    pub place: usize,
+    pub name: Vec<u8>,
+    pub value: Value,
+}
+
+impl Object {
+    /// The first member of that name.
+    pub fn member(&self, name: &[u8]) -> Option<&Member> {
+        self.members.iter().find(|member| member.name == name)
+    }
+
+    /// The value of that member.
+    pub fn value(&self, name: &[u8]) -> Option<&Value> {
+        self.member(name).map(|member| &member.value)
+    }
+}
+
+impl Value {
+    pub fn text(&self) -> Option<&[u8]> {
+        match &self.kind {
+            Kind::Text(text) => Some(text),
+            _ => None,
+        }
+    }
+
+    pub fn number(&self) -> Option<&[u8]> {
+        match &self.kind {
+            Kind::Number(text) => Some(text),
+            _ => None,
+        }
+    }
+
+    pub fn flag(&self) -> Option<bool> {
+        match &self.kind {
+            Kind::Bool(flag) => Some(*flag),
+            _ => None,
+        }
+    }
+
+    pub fn array(&self) -> Option<&[Value]> {
+        match &self.kind {
+            Kind::Array(items) => Some(items),
+            _ => None,
+        }
+    }
+
+    pub fn object(&self) -> Option<&Object> {
+        match &self.kind {
+            Kind::Object(object) => Some(object),
+            _ => None,
+        }
+    }
 }
 
 /// Reads one JSON text, white space around it allowed.
@@ -55,31 +126,35 @@ impl Reader<'_> {
 
     /// One value, with so many levels of nesting still allowed.
     fn value(&mut self, levels: usize) -> Option<Value> {
-        match self.peek()? {
-            b'n' => self.take_word(b"null").map(|()| Value::Null),
-            b't' => self.take_word(b"true").map(|()| Value::Bool(true)),
-            b'f' => self.take_word(b"false").map(|()| Value::Bool(false)),
-            b'"' => self.string().map(Value::Text),
-            b'[' => self.array(levels.checked_sub(1)?).map(Value::Array),
-            b'{' => self.object(levels.checked_sub(1)?).map(Value::Object),
-            _ => self.number().map(Value::Number),
-        }
+        let place = self.at;
+        let kind = match self.peek()? {
+            b'n' => self.take_word(b"null").map(|()| Kind::Null),
+            b't' => self.take_word(b"true").map(|()| Kind::Bool(true)),
+            b'f' => self.take_word(b"false").map(|()| Kind::Bool(false)),
+            b'"' => self.string().map(Kind::Text),
+            b'[' => self.array(levels.checked_sub(1)?).map(Kind::Array),
+            b'{' => self.object(levels.checked_sub(1)?).map(Kind::Object),
+            _ => self.number().map(Kind::Number),
+        };
+        Some(Value { place, kind: kind? })
     }
 
     fn array(&mut self, levels: usize) -> Option<Vec<Value>> {
         self.list(b'[', b']', |reader| reader.value(levels))
     }
 
-    fn object(&mut self, levels: usize) -> Option<Vec<(Vec<u8>, Value)>> {
-        self.list(b'{', b'}', |reader| reader.member(levels))
+    fn object(&mut self, levels: usize) -> Option<Object> {
+        let members = self.list(b'{', b'}', |reader| reader.member(levels))?;
+        Some(Object { members, end: self.at - 1 })
     }
 
-    fn member(&mut self, levels: usize) -> Option<(Vec<u8>, Value)> {
+    fn member(&mut self, levels: usize) -> Option<Member> {
+        let place = self.at;
         let name = self.string()?;
         self.skip_space();
         self.take(b':')?;
         self.skip_space();
-        Some((name, self.value(levels)?))
+        Some(Member { place, name, value: self.value(levels)? })
     }
 
     /// Items with commas between them, inside an opening and a closing byte.
@@ -245,6 +320,18 @@ mod tests {
         }
         assert!(read(b"[\"\xff\"]").is_none());
         assert!(read(b"[\"\xed\xa0\x80\"]").is_none());
+    }
+
+    #[test]
+    fn places() {
+        let value = read(b" {\"a\" : [1, \"\xc3\xa9\",{ }] ,\"b\":-2}").unwrap();
+        let object = value.object().unwrap();
+        assert_eq!((value.place, object.end), (1, 29));
+        let members: Vec<(usize, usize)> = object.members.iter().map(|m| (m.place, m.value.place)).collect();
+        assert_eq!(members, [(2, 8), (23, 27)]);
+        let items = object.value(b"a").unwrap().array().unwrap();
+        assert_eq!(items.iter().map(|item| item.place).collect::<Vec<usize>>(), [9, 12, 17]);
+        assert_eq!(items[2].object().unwrap().end, 19);
     }
 
     #[test]

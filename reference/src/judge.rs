@@ -2,7 +2,7 @@
 
 use crate::lines::{answer_lines, bytes, flag, hex, id_text, number, or_refused, yes_or_no};
 use crate::payload::{is_format, is_payload, Datatype};
-use crate::refusal::{Refusal, DESCRIPTION};
+use crate::refusal::Refusal;
 use crate::trace::Event;
 use crate::{description, text, topic, trace};
 
@@ -42,7 +42,7 @@ fn read_topic(domain: &[u8], text: &[u8]) -> Result<String, Refusal> {
 }
 
 fn read_description(own: &[u8], text: &[u8]) -> Result<String, Refusal> {
-    description::read(own, text).map(|_| yes_or_no(true)).ok_or(DESCRIPTION)
+    description::read(own, text).map(|_| yes_or_no(true))
 }
 
 fn read_event(file: &[u8], place: u64) -> Result<String, Refusal> {

@@ -1,4 +1,4 @@
-//! Homie 5 traces and the device table, written from paper 01 alone.
+//! Homie 5 traces and the device table, written from the papers alone.
 //!
 //! This is the plain version: nothing is saved or shared, and the table is
 //! made anew from the standing messages for every call. It serves to compare
@@ -7,7 +7,9 @@
 pub mod calls;
 pub mod count;
 pub mod description;
+pub mod faults;
 pub mod generate;
+pub mod grammar;
 pub mod json;
 pub mod judge;
 pub mod lines;

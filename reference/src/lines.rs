@@ -1,5 +1,7 @@
 //! What the line programs share: words, hex and numbers.
 
+use crate::refusal::Refusal;
+
 /// Answers each line of the input with one line. A line that has no answer
 /// gets `?`; input over the limit gets the one line `too long`.
 pub fn answer_lines(input: &[u8], limit: usize, mut answer: impl FnMut(&[&str]) -> Option<String>) -> String {
@@ -79,9 +81,9 @@ pub fn yes_or_no(answer: bool) -> String {
     if answer { "yes" } else { "no" }.to_string()
 }
 
-/// The answer, or `refused` and the number.
-pub fn or_refused(answer: Result<String, u8>) -> String {
-    answer.unwrap_or_else(|number| format!("refused {number}"))
+/// The answer, or `refused` with the number and the place if one is told.
+pub fn or_refused(answer: Result<String, Refusal>) -> String {
+    answer.unwrap_or_else(|refusal| format!("refused {refusal}"))
 }
 
 #[cfg(test)]

@@ -1,6 +1,6 @@
 //! The nine datatypes: their formats and the payloads of properties.
 
-use crate::json::{self, Value};
+use crate::json::{self, Kind};
 use crate::numbers::{float, integer, round_to_step, Decimal};
 use crate::text::is_utf8;
 use std::cmp::Ordering;
@@ -103,7 +103,9 @@ pub fn is_payload(datatype: Datatype, format: &[u8], payload: &[u8]) -> bool {
         Datatype::Color => is_color_payload(format, payload),
         Datatype::Datetime => is_datetime(payload),
         Datatype::Duration => is_duration(payload),
-        Datatype::Json => matches!(json::read(payload), Some(Value::Array(_) | Value::Object(_))),
+        Datatype::Json => {
+            json::read(payload).is_some_and(|value| matches!(value.kind, Kind::Array(_) | Kind::Object(_)))
+        }
     }
 }
 

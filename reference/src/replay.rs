@@ -1,7 +1,7 @@
 //! `replay`: a whole trace into one table, and what the table holds then.
 
 use crate::lines::{hex, id_text};
-use crate::refusal::{Refusal, HEADER};
+use crate::refusal::{number_of, Refusal, HEADER};
 use crate::table::{Book, LaneKind, Table, ROOM};
 use crate::trace;
 
@@ -10,7 +10,7 @@ const DEVICES: u64 = 4;
 const STEPS: u64 = 3;
 
 pub fn run(input: &[u8]) -> String {
-    report(input).unwrap_or_else(|number| format!("refused {number}\n"))
+    report(input).unwrap_or_else(|refusal| format!("refused {}\n", refusal.number))
 }
 
 fn report(input: &[u8]) -> Result<String, Refusal> {
@@ -21,7 +21,7 @@ fn report(input: &[u8]) -> Result<String, Refusal> {
     let mut book = Book::open(b"homie", DEVICES, STEPS, ROOM * (DEVICES + STEPS + 1))?;
     let mut output = format!("events {}\n", events.len());
     for (number, event) in events.iter().enumerate() {
-        let answer = book.message(event).err().unwrap_or(0);
+        let answer = number_of(&book.message(event));
         output += &format!("{number} {} {answer}\n", event.time);
     }
     output += &devices(&book.table())?;

@@ -156,7 +156,7 @@ impl Table {
         if payload.is_empty() {
             device.describe(None);
         } else {
-            let description = description::read(id, payload).ok_or(DESCRIPTION)?;
+            let description = description::read(id, payload)?;
             device.describe(Some(description));
         }
         Ok(())
@@ -342,10 +342,10 @@ mod tests {
     }
 
     /// The answer as a number, 0 for taken.
-    fn send(book: &mut Book, time: u64, rest: &str, retained: bool, payload: &str) -> Refusal {
+    fn send(book: &mut Book, time: u64, rest: &str, retained: bool, payload: &str) -> u8 {
         let topic = format!("homie/5/{rest}").into_bytes();
         let message = Message { time, topic, retained, payload: payload.as_bytes().to_vec() };
-        book.message(&message).err().unwrap_or(0)
+        number_of(&book.message(&message))
     }
 
     fn lamp() -> Book {
@@ -361,7 +361,7 @@ mod tests {
 
     #[test]
     fn opening() {
-        let open = |domain: &[u8], d, j, size| Book::open(domain, d, j, size).err().unwrap_or(0);
+        let open = |domain: &[u8], d, j, size| number_of(&Book::open(domain, d, j, size));
         assert_eq!(open(b"homie", 1, 0, 16384), 0);
         assert_eq!(open(b"homie", 64, 64, 8192 * 129), 0);
         assert_eq!(open(b"homie", 1, 0, 16383), 5);
@@ -379,7 +379,7 @@ mod tests {
         assert_eq!(send(&mut book, 2, "../x", true, "\u{feff}"), 9);
         let mut other = |topic: &str, retained, payload: &[u8]| {
             let message = Message { time: 2, topic: topic.as_bytes().to_vec(), retained, payload: payload.to_vec() };
-            book.message(&message).err().unwrap_or(0)
+            number_of(&book.message(&message))
         };
         assert_eq!(other("house/5/lamp/$state", true, b"\xff"), 8);
         assert_eq!(other("homie/5/lamp/$state", false, b"\xff"), 10);
@@ -406,20 +406,20 @@ mod tests {
         assert_eq!(send(&mut book, 5, "x/$state", true, "ready"), 0);
         assert_eq!(book.table().nth(0), Ok(&b"hub"[..]));
         assert_eq!(book.table().nth(1), Ok(&b"x"[..]));
-        assert_eq!(book.table().nth(2), Err(3));
+        assert_eq!(book.table().nth(2), Err(NUMBER));
     }
 
     #[test]
     fn descriptions() {
         let mut book = lamp();
         assert_eq!(send(&mut book, 2, "x/$description", true, "{"), 12);
-        assert_eq!(send(&mut book, 2, "lamp/$description", true, "{"), 15);
+        assert_eq!(send(&mut book, 2, "lamp/$description", true, "{"), 21);
         assert_eq!(send(&mut book, 3, "lamp/light/on", true, "true"), 0);
         assert_eq!(book.table().filled(b"lamp"), Ok(1));
         assert_eq!(send(&mut book, 4, "lamp/$description", true, LAMP), 0);
         assert_eq!(book.table().filled(b"lamp"), Ok(0));
         assert_eq!(send(&mut book, 5, "lamp/$description", true, ""), 0);
-        assert_eq!(book.table().property(b"lamp", 0), Err(3));
+        assert_eq!(book.table().property(b"lamp", 0), Err(NUMBER));
         assert!(book.table().device(b"lamp").unwrap().description.is_none());
         assert_eq!(send(&mut book, 6, "lamp/$description", true, ""), 0);
     }
@@ -485,7 +485,7 @@ mod tests {
         assert_eq!(book.steps(), 2);
         assert_eq!(book.step_back(), Ok(()));
         assert_eq!(book.step_back(), Ok(()));
-        assert_eq!(book.step_back(), Err(18));
+        assert_eq!(book.step_back(), Err(NO_STEP));
         assert_eq!(book.table().count(), 1);
         assert!(book.table().device(b"lamp").unwrap().description.is_none());
     }
@@ -494,12 +494,12 @@ mod tests {
     fn questions() {
         let book = lamp();
         let table = book.table();
-        assert_eq!(table.device(b"LAMP").err(), Some(12));
-        assert_eq!(table.filled(b"x"), Err(12));
-        assert_eq!(table.property(b"x", 9), Err(12));
-        assert_eq!(table.property(b"lamp", 3), Err(3));
+        assert_eq!(table.device(b"LAMP").err(), Some(NO_DEVICE));
+        assert_eq!(table.filled(b"x"), Err(NO_DEVICE));
+        assert_eq!(table.property(b"x", 9), Err(NO_DEVICE));
+        assert_eq!(table.property(b"lamp", 3), Err(NUMBER));
         assert_eq!(table.property(b"lamp", 0).unwrap().id, b"level");
-        assert_eq!(table.lane(b"x", b"y", b"z", LaneKind::Value), Err(12));
-        assert_eq!(table.lane(b"lamp", b"light", b"ON", LaneKind::Value), Err(16));
+        assert_eq!(table.lane(b"x", b"y", b"z", LaneKind::Value), Err(NO_DEVICE));
+        assert_eq!(table.lane(b"lamp", b"light", b"ON", LaneKind::Value), Err(NO_PROPERTY));
     }
 }

@@ -1,5 +1,7 @@
 //! IDs and UTF-8.
 
+use std::ops::RangeInclusive;
+
 /// The most bytes of an ID.
 pub const ID_LIMIT: usize = 32;
 
@@ -18,6 +20,40 @@ fn is_id_byte(b: u8) -> bool {
 /// UTF-8 as in RFC 3629, which is what the standard library accepts.
 pub fn is_utf8(bytes: &[u8]) -> bool {
     std::str::from_utf8(bytes).is_ok()
+}
+
+/// The first byte at which no valid UTF-8 continuation exists, the length if
+/// the text ends inside a character; none for UTF-8.
+pub fn utf8_fault(bytes: &[u8]) -> Option<usize> {
+    let mut awaited = Vec::new();
+    for (place, &byte) in bytes.iter().enumerate() {
+        match awaited.pop() {
+            None => match bytes_after(byte) {
+                Some(ranges) => awaited = ranges,
+                None => return Some(place),
+            },
+            Some(range) if range.contains(&byte) => {}
+            Some(_) => return Some(place),
+        }
+    }
+    (!awaited.is_empty()).then_some(bytes.len())
+}
+
+/// The bytes that follow the first one of a character, the last of them first:
+/// the table of RFC 3629, section 4.
+fn bytes_after(first: u8) -> Option<Vec<RangeInclusive<u8>>> {
+    let tail = || 0x80..=0xbf;
+    match first {
+        0x00..=0x7f => Some(vec![]),
+        0xc2..=0xdf => Some(vec![tail()]),
+        0xe0 => Some(vec![tail(), 0xa0..=0xbf]),
+        0xe1..=0xec | 0xee..=0xef => Some(vec![tail(), tail()]),
+        0xed => Some(vec![tail(), 0x80..=0x9f]),
+        0xf0 => Some(vec![tail(), tail(), 0x90..=0xbf]),
+        0xf1..=0xf3 => Some(vec![tail(), tail(), tail()]),
+        0xf4 => Some(vec![tail(), tail(), 0x80..=0x8f]),
+        0x80..=0xc1 | 0xf5..=0xff => None,
+    }
 }
 
 /// What rule 10 asks of every payload.
@@ -58,6 +94,56 @@ mod tests {
         ];
         for text in bad {
             assert!(!is_message_text(text));
+        }
+    }
+
+    #[test]
+    fn places_in_utf8() {
+        let texts: [(&[u8], Option<usize>); 14] = [
+            (b"", None),
+            (b"a\xc3\xa9", None),
+            (b"a\x80", Some(1)),
+            (b"\xc0\x80", Some(0)),
+            (b"\xc3", Some(1)),
+            (b"\xc3a", Some(1)),
+            (b"\xe0\x80\x80", Some(1)),
+            (b"\xe2\x82", Some(2)),
+            (b"\xe2\x82a", Some(2)),
+            (b"\xed\xa0\x80", Some(1)),
+            (b"\xf0\x80", Some(1)),
+            (b"\xf0\x9f\x98", Some(3)),
+            (b"\xf4\x90\x80\x80", Some(1)),
+            (b"aa\xf5", Some(2)),
+        ];
+        for (text, place) in texts {
+            assert_eq!(utf8_fault(text), place, "{text:02x?}");
+        }
+    }
+
+    /// Bytes at the ends of the ranges in the table.
+    const EDGES: [u8; 24] = [
+        0x00, 0x7f, 0x80, 0x8f, 0x90, 0x9f, 0xa0, 0xbf, 0xc0, 0xc1, 0xc2, 0xdf, 0xe0, 0xe1, 0xec, 0xed, 0xee, 0xef,
+        0xf0, 0xf1, 0xf3, 0xf4, 0xf5, 0xff,
+    ];
+
+    /// Whether some bytes make the text UTF-8.
+    fn can_be_completed(text: &[u8], missing: usize) -> bool {
+        let with = |&byte: &u8| can_be_completed(&[text, &[byte]].concat(), missing - 1);
+        is_utf8(text) || missing > 0 && EDGES[2..8].iter().any(with)
+    }
+
+    /// The place is what it is said to be, for all short texts of such bytes.
+    #[test]
+    fn the_place_is_the_first_without_a_continuation() {
+        let mut texts: Vec<Vec<u8>> = vec![Vec::new()];
+        for _ in 0..4 {
+            for text in &texts {
+                let place = utf8_fault(text).unwrap_or(text.len());
+                assert!(can_be_completed(&text[..place], 3), "{text:02x?}");
+                assert!(place == text.len() || !can_be_completed(&text[..=place], 3), "{text:02x?}");
+                assert_eq!(utf8_fault(text).is_none(), is_utf8(text), "{text:02x?}");
+            }
+            texts = texts.iter().flat_map(|text| EDGES.map(|byte| [&text[..], &[byte]].concat())).collect();
         }
     }
 

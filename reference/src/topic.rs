@@ -119,7 +119,7 @@ mod tests {
 
     fn line(topic: &str) -> String {
         match read(b"homie", topic.as_bytes()) {
-            Err(number) => format!("refused {number}"),
+            Err(refusal) => format!("refused {refusal}"),
             Ok(topic) => {
                 let mut words = vec![topic.form.word().to_string()];
                 words.extend(topic.ids.iter().map(|id| String::from_utf8_lossy(id).to_string()));

@@ -108,7 +108,7 @@ fn topics_and_descriptions() {
     assert_eq!(topic("homie/5/lamp/$log/trace"), "refused 9");
     let description = |text: &str| ask(&format!("description {} {}", hex(b"lamp"), hex(text.as_bytes())));
     assert_eq!(description(r#"{"homie":"5.0","version":1}"#), "yes");
-    assert_eq!(description(r#"{"homie":"5.0","version":1,"root":"lamp"}"#), "refused 15");
+    assert_eq!(description(r#"{"homie":"5.0","version":1,"root":"lamp"}"#), "refused 25 34");
 }
 
 #[test]

@@ -113,8 +113,8 @@ static void marks(void)
     assert(homie5_is_payload(HOMIE5_DATATYPE_ENUM, 1, TEXT(MARK ",\xff"), TEXT("\xff")) == 1);
     assert(homie5_is_payload(HOMIE5_DATATYPE_JSON, 0, TEXT(""), TEXT(MARK "[]")) == 0);
     assert(homie5_description_judge(LAMP, TEXT(ENUM(MARK))) == HOMIE5_OK);
-    assert(homie5_description_judge(LAMP, TEXT(ENUM("\xff"))) == HOMIE5_BAD_DESCRIPTION);
-    assert(homie5_description_judge(LAMP, TEXT(MARK ENUM("a"))) == HOMIE5_BAD_DESCRIPTION);
+    assert(homie5_description_judge(LAMP, TEXT(ENUM("\xff"))) == AT(HOMIE5_NOT_JSON, 88));
+    assert(homie5_description_judge(LAMP, TEXT(MARK ENUM("a"))) == AT(HOMIE5_NOT_JSON, 0));
 }
 
 static void descriptions(void)
@@ -123,16 +123,49 @@ static void descriptions(void)
     const char *mode = "{\"homie\":\"5.0\",\"version\":1,\"nodes\":{\"n\":{\"properties\":{\"p\":{\"datatype\":\"enum\",\"format\":\"a,b\",\"settable\":true,"
                        "\"retained\":false}}}}}";
     const char *not_kept = "{\"homie\":\"5.0\",\"version\":1,\"nodes\":{\"n\":{\"properties\":{\"p\":{\"datatype\":\"string\",\"format\":\"\\\"\"}}}}}";
-    assert(homie5_description_judge(LAMP, TEXT("{}")) == HOMIE5_BAD_DESCRIPTION);
     assert(homie5_description_judge(LAMP, TEXT(lamp)) == HOMIE5_OK);
     ANSWERS(HOMIE5_OK, homie5_description_read(LAMP, TEXT(lamp), out, out_len), 1, 0, 0, 0, 0, 1);
     ANSWERS(HOMIE5_OK, homie5_description_read(LAMP, TEXT(child), out, out_len), (uint64_t)-1, 1, 35, 1, 50, 0);
-    REFUSES(HOMIE5_BAD_DESCRIPTION, homie5_description_read(TEXT("hub"), TEXT(child), out, out_len));
     ANSWERS(HOMIE5_OK, homie5_description_property(LAMP, TEXT(lamp), 0, out, out_len), 36, 59, HOMIE5_DATATYPE_BOOLEAN, HOMIE5_KEPT_FALSE_TRUE, 0, 1, 1);
     ANSWERS(HOMIE5_OK, homie5_description_property(LAMP, TEXT(mode), 0, out, out_len), 36, 55, HOMIE5_DATATYPE_ENUM, HOMIE5_KEPT_AS_GIVEN, 87, 1, 0);
     ANSWERS(HOMIE5_OK, homie5_description_property(LAMP, TEXT(not_kept), 0, out, out_len), 36, 55, HOMIE5_DATATYPE_STRING, HOMIE5_KEPT_NOTHING, 0, 0, 1);
     REFUSES(HOMIE5_NO_SUCH_NUMBER, homie5_description_property(LAMP, TEXT(lamp), 1, out, out_len));
-    REFUSES(HOMIE5_BAD_DESCRIPTION, homie5_description_property(LAMP, TEXT("{}"), 0, out, out_len));
+}
+
+/* All calls on a description give the same refusal, and no values. */
+static void refused_description(const char *own, const char *text, uint32_t returned)
+{
+    assert(homie5_description_judge(TEXT(own), TEXT(text)) == returned);
+    REFUSES(returned, homie5_description_read(TEXT(own), TEXT(text), out, out_len));
+    REFUSES(returned, homie5_description_property(TEXT(own), TEXT(text), 0, out, out_len));
+    REFUSES(returned, homie5_description_property(TEXT(own), TEXT(text), SIZE_MAX, out, out_len));
+}
+
+#define FRONT "{\"homie\":\"5.0\",\"version\":1,"
+#define PROPERTIES(list) FRONT "\"nodes\":{\"n\":{\"properties\":{" list "}}}}"
+
+static void refused_descriptions(void)
+{
+    static char long_text[8194];
+    refused_description("lamp", "", AT(HOMIE5_NOT_JSON, 0));
+    refused_description("lamp", FRONT, AT(HOMIE5_NOT_JSON, 27));
+    refused_description("lamp", FRONT "\"x\":01}", AT(HOMIE5_NOT_JSON, 32));
+    refused_description("lamp", FRONT "\"x\":[[[[[[[[[[[[[[[[", AT(HOMIE5_NOT_JSON, 46));
+    refused_description("lamp", " \n null", AT(HOMIE5_WRONG_KIND, 3));
+    refused_description("lamp", FRONT "\"name\":null,\"name\":1}", AT(HOMIE5_WRONG_KIND, 34));
+    refused_description("lamp", PROPERTIES("\"p\":[]"), AT(HOMIE5_WRONG_KIND, 59));
+    refused_description("lamp", "{}", AT(HOMIE5_FIELD_MISSING, 1));
+    refused_description("lamp", PROPERTIES("\"p\":{\"datatype\":\"enum\"}"), AT(HOMIE5_FIELD_MISSING, 77));
+    refused_description("lamp", FRONT "\"version\":null}", AT(HOMIE5_NAME_REPEATED, 27));
+    refused_description("lamp", PROPERTIES("\"p\":{\"datatype\":\"json\"},\"p\":0"), AT(HOMIE5_NAME_REPEATED, 79));
+    refused_description("lamp", FRONT "\"parent\":\"hub\"}", AT(HOMIE5_RULE_BROKEN, 36));
+    refused_description("lamp", FRONT "\"root\":\"lamp\"}", AT(HOMIE5_RULE_BROKEN, 34));
+    refused_description("lamp", "{\"version\":-1.5}", AT(HOMIE5_RULE_BROKEN, 11));
+    memset(long_text, ' ', sizeof long_text - 1);
+    memcpy(long_text, FRONT "\"x\":0}", strlen(FRONT "\"x\":0}"));
+    refused_description("lamp", long_text, AT(HOMIE5_NOT_JSON, 8192));
+    long_text[8192] = '\0';
+    assert(homie5_description_judge(LAMP, TEXT(long_text)) == HOMIE5_OK);
 }
 
 int main(void)
@@ -154,6 +187,7 @@ int main(void)
     judgements();
     marks();
     descriptions();
+    refused_descriptions();
     fwrite(buf, 1, used, stdout);
     free(buf);
     return 0;

@@ -18,17 +18,17 @@ typedef struct {
 
 /* What a run returned, and what it wrote. */
 typedef struct {
-    uint8_t numbers[MOST];
+    uint32_t returned[MOST];
     size_t count;
     uint8_t mem[TABLE];
     uint8_t buf[BUF];
     uint64_t out[HOMIE5_VALUES];
 } run;
 
-static void note(run *r, uint8_t number)
+static void note(run *r, uint32_t returned)
 {
     assert(r->count < MOST);
-    r->numbers[r->count++] = number;
+    r->returned[r->count++] = returned;
 }
 
 static void traces(run *r, empty e)

@@ -1,8 +1,8 @@
 /*
  * Measures the stack that calls take and holds it to HOMIE5_STACK. Each job runs in a thread of its own on a painted
  * stack; how far down the paint is gone, less what an empty thread takes, is what the job takes. The inputs go deep:
- * descriptions nested 16 deep, with as many fields in an object as fit, with all properties; the largest table. It is
- * linked with `-z now`, or the dynamic linker's own stack would be measured too.
+ * descriptions nested 16 deep, with as many fields in an object as fit, with all properties, and the same with a fault
+ * at their end; the largest table. It is linked with `-z now`, or the dynamic linker's own stack would be measured too.
  */
 #define _POSIX_C_SOURCE 200112L
 #include <pthread.h>
@@ -15,6 +15,7 @@ enum { STACK = 1 << 20, PAINT = 0xa5, TABLE = 8192 * 129, TEXT_MOST = 8192, BUF 
 
 static uint8_t *mem, *buf;
 static char descriptions[DESCRIPTIONS][TEXT_MOST + 1];
+static char cut[DESCRIPTIONS][TEXT_MOST + 1], repeated[DESCRIPTIONS][TEXT_MOST + 16];
 static char *const wide = descriptions[DESCRIPTIONS - 1];
 static uint64_t out[HOMIE5_VALUES];
 static size_t used;
@@ -93,6 +94,17 @@ static void write_descriptions(void)
         assert(strlen(descriptions[i]) <= TEXT_MOST);
 }
 
+/* Each description without its last brace, and with a known field once more before it. */
+static void write_faulty(void)
+{
+    for (int i = 0; i < DESCRIPTIONS; i++) {
+        strcpy(cut[i], descriptions[i]);
+        cut[i][strlen(cut[i]) - 1] = '\0';
+        strcpy(repeated[i], cut[i]);
+        strcat(repeated[i], ",\"homie\":0}");
+    }
+}
+
 static void nothing(void)
 {
 }
@@ -135,6 +147,25 @@ static void judge_descriptions(void)
         assert(homie5_description_judge(TEXT("a"), TEXT(descriptions[i])) == HOMIE5_OK);
 }
 
+/* What is returned of the i-th faulty description. */
+static uint32_t cut_at(int i)
+{
+    return AT(HOMIE5_NOT_JSON, strlen(cut[i]));
+}
+
+static uint32_t repeated_at(int i)
+{
+    return strlen(repeated[i]) > TEXT_MOST ? AT(HOMIE5_NOT_JSON, TEXT_MOST) : AT(HOMIE5_NAME_REPEATED, strlen(cut[i]) + 1);
+}
+
+static void judge_faulty(void)
+{
+    for (int i = 0; i < DESCRIPTIONS; i++) {
+        assert(homie5_description_judge(TEXT("a"), TEXT(cut[i])) == cut_at(i));
+        assert(homie5_description_judge(TEXT("a"), TEXT(repeated[i])) == repeated_at(i));
+    }
+}
+
 static void read_descriptions(void)
 {
     for (int i = 0; i < DESCRIPTIONS; i++)
@@ -148,7 +179,7 @@ static void read_properties(void)
     assert(homie5_description_property(TEXT("a"), TEXT(wide), 23, out, HOMIE5_VALUES) == HOMIE5_OK);
 }
 
-static unsigned send(const char *topic, uint8_t retained, const char *payload)
+static uint32_t send(const char *topic, uint8_t retained, const char *payload)
 {
     return homie5_message(mem, TABLE, 1, TEXT(topic), retained, TEXT(payload));
 }
@@ -169,6 +200,14 @@ static void send_descriptions(void)
 {
     for (int i = 0; i < DESCRIPTIONS; i++)
         assert(send("homie/5/a/$description", 1, descriptions[i]) == HOMIE5_OK);
+}
+
+static void send_faulty(void)
+{
+    for (int i = 0; i < DESCRIPTIONS; i++) {
+        assert(send("homie/5/a/$description", 1, cut[i]) == cut_at(i));
+        assert(send("homie/5/a/$description", 1, repeated[i]) == repeated_at(i));
+    }
 }
 
 static void messages(void)
@@ -233,10 +272,12 @@ int main(void)
                 {"topics, datatypes, formats", judgements},
                 {"payloads", payloads},
                 {"description_judge", judge_descriptions},
+                {"description_judge, refused", judge_faulty},
                 {"description_read", read_descriptions},
                 {"description_property", read_properties},
                 {"open, states", states},
                 {"descriptions sent", send_descriptions},
+                {"descriptions refused", send_faulty},
                 {"other messages", messages},
                 {"questions", questions},
                 {"steps back", steps_back}};
@@ -247,6 +288,7 @@ int main(void)
     buf = (uint8_t *)malloc(BUF);
     assert(mem != NULL && buf != NULL);
     write_descriptions();
+    write_faulty();
     empty = taken((uint8_t *)stack, nothing);
     for (size_t i = 0; i < sizeof jobs / sizeof jobs[0]; i++) {
         size_t need = taken((uint8_t *)stack, jobs[i].job) - empty;

@@ -61,15 +61,15 @@ static void takes(uint64_t time, const char *topic, uint8_t retained, const char
     assert(homie5_message(mem, LEN, time, TEXT(topic), retained, TEXT(payload)) == HOMIE5_OK);
 }
 
-static void refuses(unsigned number, uint64_t time, const char *topic, uint8_t retained, const char *payload)
+static void refuses(uint32_t returned, uint64_t time, const char *topic, uint8_t retained, const char *payload)
 {
     keep();
-    assert(homie5_message(mem, LEN, time, TEXT(topic), retained, TEXT(payload)) == number);
+    assert(homie5_message(mem, LEN, time, TEXT(topic), retained, TEXT(payload)) == returned);
     assert(kept());
 }
 
 /* Every question about the device gets this refusal. */
-static void refuses_device(unsigned number, size_t len)
+static void refuses_device(uint32_t number, size_t len)
 {
     REFUSES(number, homie5_states(mem, len, LAMP, out, out_len));
     REFUSES(number, homie5_root(mem, len, LAMP, out, out_len));
@@ -122,7 +122,12 @@ static void messages(void)
     refuses(HOMIE5_NO_DEVICE, T0 + 30, "homie/5/fan/light/on", 1, "true");
     refuses(HOMIE5_FULL, T0 + 30, "homie/5/fan/$state", 1, "init");
     refuses(HOMIE5_BAD_PAYLOAD, T0 + 30, VALUE, 1, "TRUE");
-    refuses(HOMIE5_BAD_DESCRIPTION, T0 + 30, DESCRIBE, 1, "{}");
+    refuses(AT(HOMIE5_NOT_JSON, 11), T0 + 30, DESCRIBE, 1, "{\"homie\":4,}");
+    refuses(AT(HOMIE5_WRONG_KIND, 9), T0 + 30, DESCRIBE, 1, "{\"homie\":4}");
+    refuses(AT(HOMIE5_FIELD_MISSING, 1), T0 + 30, DESCRIBE, 1, "{}");
+    refuses(AT(HOMIE5_NAME_REPEATED, 15), T0 + 30, DESCRIBE, 1, "{\"homie\":\"5.0\",\"homie\":4}");
+    refuses(AT(HOMIE5_RULE_BROKEN, 9), T0 + 30, DESCRIBE, 1, "{\"homie\":\"4\"}");
+    refuses(HOMIE5_NO_DEVICE, T0 + 30, "homie/5/fan/$description", 1, "{}");
     refuses(HOMIE5_NO_PROPERTY, T0 + 30, "homie/5/lamp/light/off", 1, "true");
     refuses(HOMIE5_NOT_SETTABLE, T0 + 30, "homie/5/lamp/light/mode/set", 0, "a");
 }

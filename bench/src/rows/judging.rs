@@ -1,10 +1,11 @@
 //! Topics, datatypes, formats, payloads and descriptions by themselves.
 
 use crate::data::*;
+use crate::describe;
 use crate::measure::{batches, copying, Calls, Row, Sides, Unit};
 use crate::ours;
 use reference::payload::{is_format, is_payload, Datatype};
-use reference::{description, topic};
+use reference::topic;
 use std::hint::black_box;
 
 pub fn rows() -> Vec<Row> {
@@ -109,13 +110,14 @@ const ITEMS: [(&str, &str); 4] = [
     ("JSON, nested", "[[[[[[[[[[[[[[1]]]]]]]]]]]]]]"),
 ];
 
-fn description_rows() -> [Row; 4] {
+fn description_rows() -> [Row; 5] {
     let twelve = || description(OWN);
     let read = |text: &[u8]| ours::answers(0, |out| ours::description_read(OWN.as_bytes(), text, out));
     let last = |text: &[u8]| ours::answers(0, |out| ours::description_property(OWN.as_bytes(), text, 11, out));
     [
         judging_row("description, 12 properties", twelve),
         judging_row("description, 24 properties in 8 KB", || long_description(OWN)),
+        faulty_row(),
         text_row("reading description, 12 properties", twelve, read),
         text_row("last of a description's 12 properties", twelve, last),
     ]
@@ -125,13 +127,32 @@ fn judging_row(name: &str, make: impl Fn() -> String + 'static) -> Row {
     text_row(&format!("judging {name}"), make, |text| assert_eq!(ours::description_judge(OWN.as_bytes(), text), 0))
 }
 
-/// A call on the text of a description, which the second program reads whole.
+/// A description with a fault at its end; both sides tell its number and place.
+fn faulty_row() -> Row {
+    let text = faulty_description(OWN).into_bytes();
+    let returned = |text: &[u8]| ours::returned(&describe::read(OWN.as_bytes(), text));
+    Row::new("judging description, 12 properties, faulty", Unit::Megabyte(text.len()), move || {
+        let fault = returned(&text);
+        assert_ne!(fault, 0);
+        let ours = move |text: &mut Vec<u8>| {
+            assert_eq!(ours::description_judge(OWN.as_bytes(), black_box(text)), fault);
+        };
+        let reference = move |text: &mut Vec<u8>| assert_eq!(returned(black_box(text)), fault);
+        Sides {
+            ours: batches(text.clone(), 1, ours),
+            reference: batches(text.clone(), 1, reference),
+            limit: Some(copying(text.clone(), 1)),
+        }
+    })
+}
+
+/// A call on the text of a description, which the other side reads whole.
 fn text_row(name: &str, make: impl Fn() -> String + 'static, ours: fn(&[u8])) -> Row {
     let bytes = make().len();
     Row::new(name, Unit::Megabyte(bytes), move || {
         let text = make().into_bytes();
         let reference = |text: &mut Vec<u8>| {
-            black_box(description::read(OWN.as_bytes(), black_box(text)).expect("a description"));
+            black_box(describe::read(OWN.as_bytes(), black_box(text)).expect("a description"));
         };
         Sides {
             ours: batches(text.clone(), 1, move |text| ours(black_box(text))),

@@ -22,7 +22,7 @@ use Action::{Back, Message};
 struct Feed {
     before: Vec<Action>,
     timed: Vec<Action>,
-    answer: u8,
+    answer: u32,
 }
 
 pub fn rows() -> Vec<Row> {
@@ -71,7 +71,7 @@ fn sides(depth: usize, feed: &Feed) -> Sides {
     Sides { ours: ours_calls(depth, feed.clone()), reference: reference_calls(depth, feed.clone()), limit: None }
 }
 
-fn feeding<T: 'static>(table: T, feed: Feed, act: fn(&mut T, &Action) -> u8) -> Calls {
+fn feeding<T: 'static>(table: T, feed: Feed, act: fn(&mut T, &Action) -> u32) -> Calls {
     let batch = feed.timed.len();
     let before = move |(table, feed): &mut (T, Feed)| {
         for action in &feed.before {
@@ -99,8 +99,8 @@ fn ours_calls(depth: usize, feed: Feed) -> Calls {
 
 fn reference_calls(depth: usize, feed: Feed) -> Calls {
     feeding(reference_of(depth), feed, |table, action| match action {
-        Message(event) => table.message(event).err().unwrap_or(0),
-        Back => table.step_back().err().unwrap_or(0),
+        Message(event) => ours::returned(&table.message(event)),
+        Back => ours::returned(&table.step_back()),
     })
 }
 
@@ -112,8 +112,8 @@ fn taken(timed: Vec<Action>) -> Feed {
     Feed { before: Vec::new(), timed, answer: 0 }
 }
 
-fn refused(answer: u8, timed: Vec<Action>) -> Feed {
-    Feed { before: Vec::new(), timed, answer }
+fn refused(refusal: Refusal, timed: Vec<Action>) -> Feed {
+    Feed { before: Vec::new(), timed, answer: ours::returned(&Err::<(), _>(refusal)) }
 }
 
 fn after(before: Vec<Action>, timed: Vec<Action>) -> Feed {

@@ -32,7 +32,7 @@ fn asks() -> Vec<Ask> {
     (0..PROPERTIES.len()).flat_map(of).collect()
 }
 
-type Ours = fn(&[u8], &Ask, &mut Values) -> u8;
+type Ours = fn(&[u8], &Ask, &mut Values) -> u32;
 type Reference = fn(&Table, &Ask) -> Result<(), Refusal>;
 
 pub fn rows() -> Vec<Row> {
@@ -85,7 +85,7 @@ fn lane(table: &Table, ask: &Ask, kind: LaneKind) -> Result<(), Refusal> {
     table.lane(&ask.id, &ask.node, &ask.property, kind).map(seen)
 }
 
-fn our_lane(mem: &[u8], ask: &Ask, kind: LaneKind, out: &mut Values) -> u8 {
+fn our_lane(mem: &[u8], ask: &Ask, kind: LaneKind, out: &mut Values) -> u32 {
     ours::lane(mem, &ask.id, &ask.node, &ask.property, kind as u8, out)
 }
 

@@ -5,13 +5,17 @@ use crate::payload::{Datatype, Kept};
 use crate::values::id;
 use crate::{Property, Refusal};
 
-/// Whether a text is a valid description of the device of the ID `own`. Refuses with `BadDescription`.
+pub use crate::explain::{explain, Explanation};
+
+/// Whether a text is a valid description of the device of the ID `own`. Refuses with `NotJson`, else with that of
+/// `WrongKind`, `FieldMissing`, `NameRepeated` and `RuleBroken` whose place comes first. [`explain`] shows it in the text.
 ///
 /// ```
 /// use homie5::{description, Refusal};
 ///
 /// assert_eq!(description::judge("lamp", br#"{"homie":"5.0","version":1}"#), Ok(()));
-/// assert_eq!(description::judge("lamp", br#"{"homie":"5.0"}"#), Err(Refusal::BadDescription));
+/// assert_eq!(description::judge("lamp", br#"{"homie":"5.0"}"#), Err(Refusal::FieldMissing { place: 14 }));
+/// assert_eq!(description::judge("lamp", br#"{"homie":5.0}"#), Err(Refusal::WrongKind { place: 9 }));
 /// ```
 pub fn judge(own: &str, text: &[u8]) -> Result<(), Refusal> {
     call::description_judge(own, text)
@@ -50,7 +54,7 @@ pub struct Description<'a> {
 }
 
 impl<'a> Description<'a> {
-    /// Reads a description of the device of the ID `own`. Refuses with `BadDescription`.
+    /// Reads a description of the device of the ID `own`. Refuses as [`judge`] does.
     pub fn read(own: &'a str, text: &'a [u8]) -> Result<Description<'a>, Refusal> {
         let values = call::description_read(own, text)?;
         Ok(Description {

@@ -33,7 +33,8 @@
 //! # Ok::<(), Box<dyn std::error::Error>>(())
 //! ```
 //!
-//! Every call answers, or refuses with a [`Refusal`] and alters nothing. Byte strings are slices of what was lent, or of
+//! Every call answers, or refuses with a [`Refusal`] and alters nothing; that of a description tells the byte at fault,
+//! which [`description::explain`] shows in the text. Byte strings are slices of what was lent, or of
 //! the table's own memory; IDs, which are ASCII, are text. No call panics unless the library breaks the contract of its
 //! header: places inside the bytes that they stand in, strings with a closing quote, tables that stay sound. A number
 //! that this version does not name, say a refusal of a later library, is carried as `Unknown`.
@@ -50,6 +51,7 @@ pub mod trace;
 #[allow(unsafe_code)]
 mod call;
 mod device;
+mod explain;
 mod named;
 mod property;
 mod refusal;

@@ -15,15 +15,25 @@ pub const fn homie5_size(devices: usize, depth: usize) -> usize {
     8192_usize.wrapping_mul(devices.wrapping_add(depth).wrapping_add(1))
 }
 
+/// The number of the refusal in what a call returned, 0 where it answers: `HOMIE5_NUMBER`.
+pub const fn homie5_number(returned: u32) -> u8 {
+    (returned & 255) as u8
+}
+
+/// What the refusal in what a call returned tells: `HOMIE5_PLACE`.
+pub const fn homie5_place(returned: u32) -> usize {
+    (returned >> 8) as usize
+}
+
 extern "C" {
     /// Checks a whole trace.
-    pub fn homie5_trace_check(file: *const u8, file_len: usize, out: *mut u64, out_len: usize) -> u8;
+    pub fn homie5_trace_check(file: *const u8, file_len: usize, out: *mut u64, out_len: usize) -> u32;
     /// Reads the event of a number.
-    pub fn homie5_trace_read(file: *const u8, file_len: usize, i: usize, out: *mut u64, out_len: usize) -> u8;
+    pub fn homie5_trace_read(file: *const u8, file_len: usize, i: usize, out: *mut u64, out_len: usize) -> u32;
     /// Reads the event at a reading place.
-    pub fn homie5_trace_next(file: *const u8, file_len: usize, place: usize, out: *mut u64, out_len: usize) -> u8;
+    pub fn homie5_trace_next(file: *const u8, file_len: usize, place: usize, out: *mut u64, out_len: usize) -> u32;
     /// Writes the empty trace.
-    pub fn homie5_trace_empty(buf: *mut u8, buf_len: usize, out: *mut u64, out_len: usize) -> u8;
+    pub fn homie5_trace_empty(buf: *mut u8, buf_len: usize, out: *mut u64, out_len: usize) -> u32;
     /// Appends an event to a trace.
     pub fn homie5_trace_append(
         buf: *mut u8,
@@ -37,7 +47,7 @@ extern "C" {
         payload_len: usize,
         out: *mut u64,
         out_len: usize,
-    ) -> u8;
+    ) -> u32;
     /// Reads a topic under a domain.
     pub fn homie5_topic_read(
         domain: *const u8,
@@ -46,7 +56,7 @@ extern "C" {
         topic_len: usize,
         out: *mut u64,
         out_len: usize,
-    ) -> u8;
+    ) -> u32;
     /// What the form of a topic asks of a message's flag.
     pub fn homie5_topic_flag(
         domain: *const u8,
@@ -55,9 +65,9 @@ extern "C" {
         topic_len: usize,
         out: *mut u64,
         out_len: usize,
-    ) -> u8;
+    ) -> u32;
     /// The datatype of a name.
-    pub fn homie5_is_datatype(name: *const u8, name_len: usize, out: *mut u64, out_len: usize) -> u8;
+    pub fn homie5_is_datatype(name: *const u8, name_len: usize, out: *mut u64, out_len: usize) -> u32;
     /// Whether a format is valid for a datatype, or may be missing.
     pub fn homie5_is_format(
         datatype: u8,
@@ -66,7 +76,7 @@ extern "C" {
         format_len: usize,
         out: *mut u64,
         out_len: usize,
-    ) -> u8;
+    ) -> u32;
     /// Whether a payload is valid for a datatype and a format.
     pub fn homie5_is_payload(
         datatype: u8,
@@ -75,9 +85,9 @@ extern "C" {
         format_len: usize,
         payload: *const u8,
         payload_len: usize,
-    ) -> u8;
+    ) -> u32;
     /// Whether a text is a valid description.
-    pub fn homie5_description_judge(own: *const u8, own_len: usize, text: *const u8, text_len: usize) -> u8;
+    pub fn homie5_description_judge(own: *const u8, own_len: usize, text: *const u8, text_len: usize) -> u32;
     /// What a description declares.
     pub fn homie5_description_read(
         own: *const u8,
@@ -86,7 +96,7 @@ extern "C" {
         text_len: usize,
         out: *mut u64,
         out_len: usize,
-    ) -> u8;
+    ) -> u32;
     /// The i-th property that a description declares.
     pub fn homie5_description_property(
         own: *const u8,
@@ -96,7 +106,7 @@ extern "C" {
         i: usize,
         out: *mut u64,
         out_len: usize,
-    ) -> u8;
+    ) -> u32;
     /// Opens a table.
     pub fn homie5_open(
         mem: *mut u8,
@@ -105,7 +115,7 @@ extern "C" {
         domain_len: usize,
         devices: usize,
         depth: usize,
-    ) -> u8;
+    ) -> u32;
     /// Feeds a message to the table.
     pub fn homie5_message(
         mem: *mut u8,
@@ -116,13 +126,13 @@ extern "C" {
         retained: u8,
         payload: *const u8,
         payload_len: usize,
-    ) -> u8;
+    ) -> u32;
     /// Takes the last message back.
-    pub fn homie5_step_back(mem: *mut u8, mem_len: usize) -> u8;
+    pub fn homie5_step_back(mem: *mut u8, mem_len: usize) -> u32;
     /// How many devices there are.
-    pub fn homie5_device_count(mem: *const u8, mem_len: usize, out: *mut u64, out_len: usize) -> u8;
+    pub fn homie5_device_count(mem: *const u8, mem_len: usize, out: *mut u64, out_len: usize) -> u32;
     /// The i-th device.
-    pub fn homie5_device_at(mem: *const u8, mem_len: usize, i: usize, out: *mut u64, out_len: usize) -> u8;
+    pub fn homie5_device_at(mem: *const u8, mem_len: usize, i: usize, out: *mut u64, out_len: usize) -> u32;
     /// The states of a device.
     pub fn homie5_states(
         mem: *const u8,
@@ -131,7 +141,7 @@ extern "C" {
         id_len: usize,
         out: *mut u64,
         out_len: usize,
-    ) -> u8;
+    ) -> u32;
     /// The root of a device.
     pub fn homie5_root(
         mem: *const u8,
@@ -140,7 +150,7 @@ extern "C" {
         id_len: usize,
         out: *mut u64,
         out_len: usize,
-    ) -> u8;
+    ) -> u32;
     /// The parent of a device.
     pub fn homie5_parent(
         mem: *const u8,
@@ -149,7 +159,7 @@ extern "C" {
         id_len: usize,
         out: *mut u64,
         out_len: usize,
-    ) -> u8;
+    ) -> u32;
     /// The version of a device's description.
     pub fn homie5_version(
         mem: *const u8,
@@ -158,7 +168,7 @@ extern "C" {
         id_len: usize,
         out: *mut u64,
         out_len: usize,
-    ) -> u8;
+    ) -> u32;
     /// How many properties of a device hold a value.
     pub fn homie5_values_held(
         mem: *const u8,
@@ -167,7 +177,7 @@ extern "C" {
         id_len: usize,
         out: *mut u64,
         out_len: usize,
-    ) -> u8;
+    ) -> u32;
     /// The i-th property of a device.
     pub fn homie5_property(
         mem: *const u8,
@@ -177,7 +187,7 @@ extern "C" {
         i: usize,
         out: *mut u64,
         out_len: usize,
-    ) -> u8;
+    ) -> u32;
     /// What a lane of a property holds.
     pub fn homie5_lane(
         mem: *const u8,
@@ -191,9 +201,9 @@ extern "C" {
         kind: u8,
         out: *mut u64,
         out_len: usize,
-    ) -> u8;
+    ) -> u32;
     /// The time of the last message that stands.
-    pub fn homie5_last_time(mem: *const u8, mem_len: usize, out: *mut u64, out_len: usize) -> u8;
+    pub fn homie5_last_time(mem: *const u8, mem_len: usize, out: *mut u64, out_len: usize) -> u32;
     /// How many steps back are on offer.
-    pub fn homie5_steps(mem: *const u8, mem_len: usize, out: *mut u64, out_len: usize) -> u8;
+    pub fn homie5_steps(mem: *const u8, mem_len: usize, out: *mut u64, out_len: usize) -> u32;
 }

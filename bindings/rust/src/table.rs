@@ -174,7 +174,8 @@ impl Table {
         self.memory
     }
 
-    /// Feeds a message. Refuses with `Earlier` to `NotSettable`.
+    /// Feeds a message. Refuses with `Earlier` to `NotSettable`, and a description as
+    /// [`judge`](crate::description::judge) does: the place is one of its payload.
     pub fn message(&mut self, event: &Event) -> Result<(), Refusal> {
         call::message(&mut self.memory, event)
     }

@@ -7,29 +7,26 @@ use crate::Refusal;
 pub struct Values([u64; HOMIE5_VALUES]);
 
 /// Makes a call, with room for every value: the values of its answer, or the refusal.
-pub fn ask(call: impl FnOnce(&mut [u64]) -> u8) -> Result<Values, Refusal> {
+pub fn ask(call: impl FnOnce(&mut [u64]) -> u32) -> Result<Values, Refusal> {
     let mut values = [0; HOMIE5_VALUES];
     taken(call(&mut values))?;
     Ok(Values(values))
 }
 
 /// Makes a judgement, with room for every value: the values of a yes.
-pub fn judge(call: impl FnOnce(&mut [u64]) -> u8) -> Option<Values> {
+pub fn judge(call: impl FnOnce(&mut [u64]) -> u32) -> Option<Values> {
     let mut values = [0; HOMIE5_VALUES];
     yes(call(&mut values)).then_some(Values(values))
 }
 
-/// What a call says that returned this number: 0, or a refusal.
-pub fn taken(number: u8) -> Result<(), Refusal> {
-    match number {
-        0 => Ok(()),
-        _ => Err(Refusal::from_number(number)),
-    }
+/// What a call says that returned this: 0, or a refusal.
+pub fn taken(returned: u32) -> Result<(), Refusal> {
+    Refusal::from_returned(returned).map_or(Ok(()), Err)
 }
 
-/// What a judgement says that returned this number.
-pub fn yes(number: u8) -> bool {
-    number != 0
+/// What a judgement says that returned this.
+pub fn yes(returned: u32) -> bool {
+    returned != 0
 }
 
 impl Values {

@@ -1,7 +1,7 @@
 //! This crate says what `include/homie5.h` says.
 
 use homie5::payload::{Datatype, Kept};
-use homie5::sys::{homie5_size, HOMIE5_STACK, HOMIE5_VALUES, HOMIE5_VERSION};
+use homie5::sys::{homie5_number, homie5_place, homie5_size, HOMIE5_STACK, HOMIE5_VALUES, HOMIE5_VERSION};
 use homie5::table::{Lane, State};
 use homie5::topic::Flag;
 use homie5::Refusal;
@@ -10,12 +10,12 @@ const HEADER: &str = include_str!("../../../include/homie5.h");
 const CALLS: &str = include_str!("../src/sys.rs");
 const TOPICS: &str = include_str!("../src/topic.rs");
 
-/// The header less the functions that it defines itself.
+/// The header less its comments and the functions that it defines itself.
 fn declarations(header: &str) -> String {
     let mut inside = false;
     let mut outside = |line: &&str| {
         inside |= line.starts_with("static inline ");
-        let keep = !inside;
+        let keep = !inside && !line.starts_with(" *");
         inside &= *line != "}";
         keep
     };
@@ -50,6 +50,7 @@ fn of_c(declared: &str) -> String {
         ("uint8_t *", "*mut u8"),
         ("uint64_t *", "*mut u64"),
         ("uint8_t ", "u8"),
+        ("uint32_t ", "u32"),
         ("uint64_t ", "u64"),
         ("size_t ", "usize"),
     ];
@@ -66,12 +67,12 @@ fn calls_are_declared_alike() {
 }
 
 #[test]
-fn prefixes_and_functions_of_the_header_are_passed_over() {
+fn comments_prefixes_and_functions_of_the_header_are_passed_over() {
     let header =
-        "#define HOMIE5_API\n/* A call. */\nHOMIE5_API uint8_t homie5_a(const uint8_t *b,\n  size_t b_len);\n\n\
+        "#define HOMIE5_API\n/*\n * A call:\n *   homie5_i(j);\n */\nHOMIE5_API uint32_t homie5_a(const uint8_t *b,\n  size_t b_len);\n\n\
         static inline const char *homie5_c(uint8_t d)\n{\n    if (d) {\n        e(d);\n    }\n    return f(d);\n}\n\
-        uint8_t homie5_g(uint8_t *h);\n";
-    assert_eq!(calls_of_header(header), ["homie5_a: u8(b: *const u8, b_len: usize)", "homie5_g: u8(h: *mut u8)"]);
+        uint32_t homie5_g(uint8_t *h);\n";
+    assert_eq!(calls_of_header(header), ["homie5_a: u32(b: *const u8, b_len: usize)", "homie5_g: u32(h: *mut u8)"]);
 }
 
 #[test]
@@ -81,6 +82,17 @@ fn sizes_are_those_of_the_header() {
     assert!(HEADER.contains(&format!("\n#define HOMIE5_STACK {HOMIE5_STACK}\n")));
     assert!(HEADER.contains(&format!("\n#define HOMIE5_SIZE(devices, depth) ((size_t){room} * {sum})\n")));
     assert_eq!(homie5_size(64, 3), room * (64 + 3 + 1));
+}
+
+#[test]
+fn what_is_returned_is_taken_apart_as_in_the_header() {
+    assert!(HEADER.contains("\n#define HOMIE5_NUMBER(returned) ((unsigned)((uint32_t)(returned) & 255u))\n"));
+    assert!(HEADER.contains("\n#define HOMIE5_PLACE(returned) ((size_t)((uint32_t)(returned) >> 8))\n"));
+    for (returned, number, place) in
+        [(0, 0, 0), (18, 18, 0), ((8192 << 8) + 21, 21, 8192), (u32::MAX, 255, (1 << 24) - 1)]
+    {
+        assert_eq!((homie5_number(returned), homie5_place(returned)), (number, place));
+    }
 }
 
 #[test]
@@ -115,9 +127,14 @@ fn number(text: &str) -> Option<u8> {
     text[..end].parse().ok()
 }
 
+/// The name of a member of a list, in capitals.
+fn name(one: &impl std::fmt::Debug) -> String {
+    upper(format!("{one:?}").split(' ').next().unwrap_or(""))
+}
+
 macro_rules! listed {
     ($prefix:literal, $list:ident) => {
-        $list::ALL.iter().map(|one| (format!("{}{}", $prefix, upper(&format!("{one:?}"))), one.number()))
+        $list::ALL.iter().map(|one| (format!("{}{}", $prefix, name(one)), one.number()))
     };
 }
 
@@ -143,18 +160,29 @@ fn numbers_are_those_of_the_header() {
 
 #[test]
 fn every_number_is_carried() {
+    let named = |number: u8| (1..=18).contains(&number) && number != 15 || (21..=25).contains(&number);
     for number in 0..=u8::MAX {
-        let refusal = Refusal::from_number(number);
-        assert_eq!(refusal.number(), number);
-        assert_eq!(Refusal::ALL.contains(&refusal), (1..=18).contains(&number));
+        assert_eq!(Refusal::from_returned(number.into()).is_none(), number == 0);
+        for told in [1, 0x2000, 0xff_ffff] {
+            let refusal = Refusal::from_returned(told << 8 | u32::from(number)).unwrap();
+            let (unknown, words) = (format!("Unknown {{ number: {number}, told: {told} }}"), refusal.to_string());
+            assert_eq!(refusal.number(), number);
+            assert_eq!(refusal.place(), (21..=25).contains(&number).then_some(told as usize));
+            assert_eq!(format!("{refusal:?}") == unknown, !named(number));
+            assert_eq!(words == format!("unknown {number}"), !named(number));
+        }
         assert_eq!(format!("{:?}", State::from_number(number)) == format!("Unknown({number})"), number > 4);
     }
+    assert_eq!(
+        Refusal::ALL.iter().map(|refusal| refusal.number()).collect::<Vec<_>>(),
+        Vec::from_iter((1..=25).filter(|n| named(*n)))
+    );
 }
 
 #[test]
 fn refusals_have_the_words_of_the_header() {
     for refusal in Refusal::ALL {
-        let case = format!("case HOMIE5_{}:\n        return \"{refusal}\";\n", upper(&format!("{refusal:?}")));
+        let case = format!("case HOMIE5_{}:\n        return \"{}\";\n", name(refusal), refusal.words());
         assert!(HEADER.contains(&case), "{case}");
     }
 }

@@ -79,7 +79,14 @@ fn refused_messages_alter_nothing() {
         (event(LATE, "homie/5/fan/a/on", true, "true"), Refusal::NoDevice),
         (event(LATE, "homie/5/fan/$state", true, "ready"), Refusal::Full),
         (event(LATE, "homie/5/lamp/a/on", true, "TRUE"), Refusal::BadPayload),
-        (event(LATE, "homie/5/lamp/$description", true, "{}"), Refusal::BadDescription),
+        (event(LATE, "homie/5/lamp/$description", true, "{"), Refusal::NotJson { place: 1 }),
+        (event(LATE, "homie/5/lamp/$description", true, " []"), Refusal::WrongKind { place: 1 }),
+        (event(LATE, "homie/5/lamp/$description", true, "{}"), Refusal::FieldMissing { place: 1 }),
+        (
+            event(LATE, "homie/5/lamp/$description", true, r#"{"name":"","name":0}"#),
+            Refusal::NameRepeated { place: 11 },
+        ),
+        (event(LATE, "homie/5/lamp/$description", true, r#"{"homie":"4.0"}"#), Refusal::RuleBroken { place: 9 }),
         (event(LATE, "homie/5/lamp/a/off", true, "true"), Refusal::NoProperty),
         (event(LATE, "homie/5/lamp/b/mode/set", false, "low"), Refusal::NotSettable),
     ];

@@ -3,7 +3,7 @@
 mod common;
 
 use common::{declared, DESCRIPTION};
-use homie5::description::Description;
+use homie5::description::{explain, judge, Description};
 use homie5::payload::{Datatype, Kept};
 use homie5::topic::{Flag, Topic};
 use homie5::Refusal;
@@ -107,7 +107,51 @@ fn descriptions_declare() {
     assert_eq!(properties, declared());
     assert_eq!(read.property(3), Err(Refusal::NoSuchNumber));
     let own_root = Description::read("hub", DESCRIPTION.as_bytes());
-    assert_eq!(own_root, Err(Refusal::BadDescription));
+    let place = DESCRIPTION.find("\"hub\"").unwrap();
+    assert_eq!(own_root, Err(Refusal::RuleBroken { place }));
     let least = Description::read("lamp", br#"{"version":9223372036854775807,"homie":"5.0"}"#).unwrap();
     assert_eq!((least.version, least.root, least.parent, least.properties), (i64::MAX, None, None, 0));
+}
+
+/// The front of a description, and the description of one property with these fields.
+const FRONT: &str = r#"{"homie":"5.0","version":1,"#;
+
+fn of_property(fields: &str) -> String {
+    format!(r#"{FRONT}"nodes":{{"n":{{"properties":{{"p":{{{fields}}}}}}}}}}}"#)
+}
+
+#[test]
+fn refusals_of_descriptions_tell_the_place() {
+    let whole = |fields: &str| format!("{FRONT}{fields}}}");
+    // the text, the number, and what stands at the place and behind it
+    let refused = [
+        (whole("]"), 21, "]}"),
+        (whole(r#""name":"a"#), 21, ""),
+        (whole(&format!(r#""x":{}"#, "[".repeat(16))), 21, "[}"),
+        ("[1]".to_string(), 22, "[1]"),
+        (whole(r#""nodes":{"n":null}"#), 22, "null}}"),
+        (whole(r#""children":["a",7]"#), 22, "7]}"),
+        (of_property(r#""settable":true"#), 23, "}}}}}"),
+        (of_property(r#""datatype":"enum""#), 23, "}}}}}"),
+        (whole(r#""type":"","version":2"#), 24, r#""version":2}"#),
+        (whole(r#""nodes":{"n":{},"n":{}}"#), 24, r#""n":{}}}"#),
+        (whole(r#""parent":"hub""#), 25, r#""hub"}"#),
+        (whole(r#""nodes":{"N":{}}"#), 25, r#""N":{}}}"#),
+        (of_property(r#""datatype":"integer","format":"2:1""#), 25, r#""2:1"}}}}}"#),
+    ];
+    for (text, number, rest) in refused {
+        let place = text.len() - rest.len();
+        assert!(text.ends_with(rest));
+        let refusal = judge("lamp", text.as_bytes()).unwrap_err();
+        assert_eq!((refusal.number(), refusal.place()), (number, Some(place)), "{text}");
+        assert_eq!(Description::read("lamp", text.as_bytes()), Err(refusal), "{text}");
+        assert_eq!(explain(text.as_bytes(), refusal).column(), Some(place + 1), "{text}");
+    }
+}
+
+#[test]
+fn a_property_that_a_description_lacks_tells_no_place() {
+    let text = of_property(r#""datatype":"json""#);
+    let read = Description::read("lamp", text.as_bytes()).unwrap();
+    assert_eq!(read.property(1).map_err(|refusal| (refusal, refusal.place())), Err((Refusal::NoSuchNumber, None)));
 }

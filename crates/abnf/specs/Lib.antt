@@ -1,2 +1,3 @@
 pub mod Abnf
 pub mod Accepts
+pub mod Place

@@ -21,6 +21,7 @@ pub(crate) fn unknown(out: &mut [u8]) -> usize {
 pub(crate) fn outcome(out: &mut [u8], o: Outcome) -> usize {
     match o {
         Outcome::Refused(n) => words::refused(out, n),
+        Outcome::Faulty(n, place) => words::refused_at(out, n, place),
         Outcome::Taken => lines::out::put(out, 0, b"taken"),
     }
 }

@@ -4,7 +4,9 @@ use mathlib.Core.Path.{_≡_, refl, sym, ap, ap₂, _∙_, subst}
 use mathlib.Core.List.{List, [], _∷_}
 use mathlib.Core.Bool.{Bool, true, false, false≢true}
 use lib.ListN.{length, getD, drop}
-use Rattle.answer.specs.Answer.{Answer, refused, gives}
+use types.Run.{OneOf, miss}
+use denote.Enum.Declared.{tagOf}
+use Rattle.answer.specs.Answer.{Answer, refused, gives, only}
 use Rattle.book.specs.Book as book
 use Rattle.book.specs.Book.{Call, State, fresh, moved, become, refuses, takes, Rules, message, stepBack, question, next, from, tableAfter, blank, told, noted, withoutLast, after, answers, done, call}
 use Rattle.rules.specs.Table.{Table, noDevices}
@@ -17,7 +19,8 @@ use Rattle.lookup.specs.Meaning.{Sound, Opening, openingOf, means}
 use Rattle.lookup.specs.Contract.{Did, Opened, saysTaken, isTaken, isOpenable, openAnswer}
 use Rattle.lookup.proofs.Demand.{reversible}
 use Rattle.table.specs.declared.Outcome.{Outcome}
-use Rattle.table.specs.declared.Outcome.the-variants.{Taken, Refused}
+use Rattle.table.specs.declared.Outcome.the-variants.{Taken, Refused, Faulty}
+use Rattle.table.proofs.Outcome.{the-type}
 use Rattle.table.specs.Outcome.{said}
 use Rattle.questions.specs.Meaning.{saysNumber}
 use Rattle.questions.specs.declared.Number.the-variants as number
@@ -118,12 +121,19 @@ opened false = refl
 taken-open : {m₀ m₁ domain : List ℕ} {a : Answer Value} → Opened m₀ domain 4 3 m₁ a → isTaken a ≡ isOpenable domain 4 3 (length m₀)
 taken-open {m₀} {m₁} {domain} o = ap isTaken (o .answered) ∙ opened (isOpenable domain 4 3 (length m₀))
 
-pub refused-right : (m₀ m₁ domain : List ℕ) (x : messages.Message) (r : Outcome) (n : ℕ) → Opened m₀ domain 4 3 m₁ (said r) → r ≡ Refused n → SentTwice m₀ domain x m₁ (said r) (said r) (saysNumber (number.Refused 5))
+-- an outcome that is not the first of the three
+not-taken : (r : Outcome) → OneOf (1 ∷ 2 ∷ []) (tagOf the-type r) → isTaken (said r) ≡ false
+unfolding isTaken
+not-taken Taken k = absurd (miss (1 ∷ 2 ∷ []) 0 tt k)
+not-taken (Refused n) k = refl
+not-taken (Faulty n p) k = refl
+
+pub refused-right : (m₀ m₁ domain : List ℕ) (x : messages.Message) (r : Outcome) → Opened m₀ domain 4 3 m₁ (said r) → OneOf (1 ∷ 2 ∷ []) (tagOf the-type r) → SentTwice m₀ domain x m₁ (said r) (said r) (saysNumber (number.Refused 5))
 unfolding isTaken openAnswer saysNumber
-refused-right m₀ m₁ domain x r n o e =
-    let t : isTaken (said r) ≡ false = ap (λ (y : Outcome). isTaken (said y)) e in
+refused-right m₀ m₁ domain x r o k =
+    let t = not-taken r k in
     let f : isOpenable domain 4 3 (length m₀) ≡ false = sym (taken-open o) ∙ t in
-    let s : said r ≡ refused 5 = o .answered ∙ ap openAnswer f in
+    let s : said r ≡ refused (only 5) = o .answered ∙ ap openAnswer f in
     record { unopened = λ h. (s, s, refl, o .refused t); judged = λ h. absurd (false≢true (sym f ∙ h)); alike = λ h. refl; counted = λ h. absurd (false≢true (sym f ∙ h)); sound = λ h. absurd (false≢true (sym f ∙ h)); means = λ h. absurd (false≢true (sym f ∙ h)); kept = o .kept; beyond = o .beyond }
 
 pub sent-right : (m₀ m₁ m₂ m₃ m₄ domain : List ℕ) (x : messages.Message) (r : Outcome) (first undone again count : Answer Value) → Opened m₀ domain 4 3 m₁ (said r) → r ≡ Taken → Did (message x) m₁ m₂ first → Did stepBack m₂ m₃ undone → Did (message x) m₃ m₄ again → Did (question askCount) m₄ m₄ count → SentTwice m₀ domain x m₄ first again count

@@ -4,7 +4,7 @@ use mathlib.Core.Path.{_≡_}
 use mathlib.Core.List.{List}
 use mathlib.Core.Bool.{true, false}
 use lib.ListN.{length, drop}
-use Rattle.answer.specs.Answer.{Answer, refused}
+use Rattle.answer.specs.Answer.{Answer, refused, only}
 use Rattle.memory.specs.Layout.{imageAt}
 use Rattle.book.specs.Book.{message, told, next, fresh, become}
 use Rattle.rules.specs.Table.{noDevices}
@@ -15,7 +15,7 @@ use Rattle.lookup.specs.Meaning as meaning
 use Rattle.lookup.specs.Contract.{isOpenable}
 
 pub record SentTwice (m domain : List ℕ) (x : messages.Message) (m′ : List ℕ) (first again count : Answer Value) : Type 0 where
-  pub unopened : isOpenable domain 4 3 (length m) ≡ false → (first ≡ refused 5) × (again ≡ refused 5) × (count ≡ refused 5) × (m′ ≡ m)
+  pub unopened : isOpenable domain 4 3 (length m) ≡ false → (first ≡ refused (only 5)) × (again ≡ refused (only 5)) × (count ≡ refused (only 5)) × (m′ ≡ m)
   pub judged : isOpenable domain 4 3 (length m) ≡ true → first ≡ told (rules domain 4) (outcome (messages.message domain 4 noDevices x))
   pub alike : isOpenable domain 4 3 (length m) ≡ true → again ≡ first
   -- the number of devices that the message, sent once, makes of a new table

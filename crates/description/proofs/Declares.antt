@@ -1,140 +1,160 @@
--- What the rules of a description show of all that it declares.
+-- What a description without fault shows of all that it declares.
 use Prim.Native.Nat.{ℕ, _≤_}
-use native.Mathlib.Nat.{add-zero}
 use native.Mathlib.Omega.{arith}
 use mathlib.Core.Path.{_≡_, refl, sym, ap, _∙_}
 use mathlib.Core.Logic.{_⊎_, inl, inr}
 use mathlib.Core.List.{List, [], _∷_, _++_}
-use mathlib.Core.Bool.{Bool, true, false, not, _&&_, _||_, false≢true, true≢false}
+use mathlib.Core.Bool.{Bool, true, false, not, false≢true}
 use mathlib.Core.Option.{Option, none, some}
 use lib.ListN.{length}
-use lib.Dec.{leb}
-use borrow.Author.Tests.{leb-true, not-true}
-use Rattle.answer.specs.Answer.{gives, refused}
+use borrow.Author.Tests.{not-true}
+use Rattle.answer.specs.Answer.{Answer, gives, refused, placed}
 use Rattle.text.specs.Bytes.{eqBytes}
 use Rattle.text.specs.Ids.{isId}
-use Rattle.text.specs.Utf8.{isUtf8}
-use Rattle.text.proofs.Bytes.{both, and-both, eqBytes-false}
+use Rattle.text.proofs.Bytes.{eqBytes-false}
 use Rattle.json.specs.Bytes.{ws}
-use Rattle.json.specs.Value.{documentOf}
-use Rattle.fields.specs.Values.{stringBytes, isStringAt, isIdText, ofKind}
-use Rattle.fields.specs.Fields.{holds, field, optional, isPresent, textIn}
+use Rattle.json_grammar.specs.Place.{badPlaces}
+use Rattle.faults.specs.declared.Told.{Told}
+use Rattle.faults.specs.declared.Told.the-variants.{Nothing, At}
+use Rattle.faults.specs.Faults.{Fault, least, otherRule, _otherwise_}
+use Rattle.faults.proofs.Laws.{at-nothing, both-none, rule-kept, least-nothing}
+use Rattle.fields.specs.Values.{stringBytes, isStringAt, isObject}
+use Rattle.fields.specs.Fields.{field, isPresent, textIn, nameFaults}
 use Rattle.fields.specs.declared.Field.{Field}
-use Rattle.fields.specs.declared.Field.the-variants.{Absent, One, Twice}
-use Rattle.fields.specs.declared.Kind.the-variants.{Id}
-use Rattle.fields.proofs.Rules.{rule-at, holds-first, holds-second}
+use Rattle.fields.specs.declared.Field.the-variants.{Absent, First}
+use Rattle.fields.specs.declared.Owner.the-variants as owner
 use Rattle.properties.specs.Property.{Property, insertAll}
 use Rattle.properties.specs.Valid.{Valid, In, Arranged}
+use Rattle.properties.proofs.Rules.{kind-none}
 use Rattle.properties.proofs.Lists.{in-none, put-in}
 use Rattle.properties.proofs.Theorems.{in-order}
-use Rattle.nodes.specs.Nodes.{each, nodeMember}
-use Rattle.nodes.proofs.Theorems.{valid, apart}
-use Rattle.description.specs.Names.{nodes, root, parent}
-use Rattle.description.specs.Description.{otherRules, fieldRules, isOther, familyRules, declared, isEnd, validRules, rules, Described, describedIn, describe}
+use Rattle.nodes.specs.Nodes.{nodesFaults}
+use Rattle.nodes.proofs.Theorems as ofNodes
+use Rattle.description.specs.Names.{homie, version, nodes, root, parent}
+use Rattle.description.specs.Description.{homieFaults, versionFaults, otherFaults, relativeFaults, rootFaults, parentFaults, declared, deviceFieldFaults, deviceFaults, told, Described, describedIn, describe}
 use Rattle.description.specs.Declares.{Other, Declares}
-use Rattle.description.proofs.Whole.{refuses, takes}
+use Rattle.description.proofs.Whole.{told-nothing, told-at, wrong-told, right-told}
 
 -- ---- a field that holds another device's ID
 
 module _ (own s : List ℕ) where
-  other-id : (f : Field) (id : List ℕ) → optional Id s f ≡ true → isOther own s f ≡ true → textIn s f ≡ some id → Other own id
-  unfolding optional isOther textIn ofKind isIdText
-  other-id Absent id o n e = let z : _≡_ {A = ℕ} 0 1 = cc in absurd (omega arith)
-  other-id (One k) id o n e =
-      let t : stringBytes s k ≡ id = cc in
-      rw (sym t) (record { is = and-both (isStringAt s k) (isId (stringBytes s k)) o .1; other = eqBytes-false (stringBytes s k) own (not-true _ n) })
-  other-id Twice id o n e = let z : _≡_ {A = ℕ} 0 1 = cc in absurd (omega arith)
+  other-at : (k : ℕ) (id : List ℕ) → relativeFaults own s k ≡ [] → stringBytes s k ≡ id → Other own id
+  unfolding relativeFaults
+  other-at k id h t =
+      let q = both-none (isId (stringBytes s k) otherwise otherRule k) (not (eqBytes (stringBytes s k) own) otherwise otherRule k) h in
+      rw (sym t) (record {
+        is = rule-kept (isId (stringBytes s k)) (otherRule k) (q .0);
+        other = eqBytes-false (stringBytes s k) own (not-true _ (rule-kept (not (eqBytes (stringBytes s k) own)) (otherRule k) (q .1)));
+      })
 
-  no-parent : (f g : Field) → optional Id s f ≡ true → (not (isPresent g) || isPresent f) ≡ true → textIn s f ≡ none → textIn s g ≡ none
-  unfolding optional isPresent textIn
-  no-parent Absent Absent o n e = refl
-  no-parent Absent (One k) o n e = absurd (false≢true n)
-  no-parent Absent Twice o n e = refl
-  no-parent (One j) g o n e = let z : _≡_ {A = ℕ} 0 1 = cc in absurd (omega arith)
-  no-parent Twice g o n e = absurd (false≢true o)
+  root-other : (f : Field) (id : List ℕ) → rootFaults own s f ≡ [] → textIn s f ≡ some id → Other own id
+  unfolding rootFaults textIn
+  root-other Absent id h e = let z : _≡_ {A = ℕ} 0 1 = cc in absurd (omega arith)
+  root-other (First k) id h e = let t : stringBytes s k ≡ id = cc in other-at k id (kind-none (isStringAt s k) k (relativeFaults own s k) h .1) t
 
--- ---- the rules, one by one
+  module _ (r : Field) where
+    parent-rules : (k : ℕ) → parentFaults own s r (First k) ≡ [] → (relativeFaults own s k ≡ []) × (isPresent r ≡ true)
+    unfolding parentFaults
+    parent-rules k h =
+        let q = both-none (relativeFaults own s k) (isPresent r otherwise otherRule k) (kind-none (isStringAt s k) k (relativeFaults own s k ++ (isPresent r otherwise otherRule k)) h .1) in
+        (q .0, rule-kept (isPresent r) (otherRule k) (q .1))
 
-module _ (own s : List ℕ) (at : ℕ) (h : holds (validRules own s at) ≡ true) where
-  after-json : holds (fieldRules s at ++ (familyRules own s at ++ (each (nodeMember s) s (field s at nodes) ∷ []))) ≡ true
-  unfolding validRules
-  after-json = holds-second (leb (length s) 8192 ∷ isUtf8 s ∷ isEnd (documentOf s) ∷ []) (fieldRules s at ++ (familyRules own s at ++ (each (nodeMember s) s (field s at nodes) ∷ []))) h
+    parent-other : (f : Field) (id : List ℕ) → parentFaults own s r f ≡ [] → textIn s f ≡ some id → Other own id
+    unfolding textIn
+    parent-other Absent id h e = let z : _≡_ {A = ℕ} 0 1 = cc in absurd (omega arith)
+    parent-other (First k) id h e = let t : stringBytes s k ≡ id = cc in other-at k id (parent-rules k h .0) t
 
-  its-fields : holds (fieldRules s at) ≡ true
-  its-fields = holds-first (fieldRules s at) (familyRules own s at ++ (each (nodeMember s) s (field s at nodes) ∷ [])) after-json
+  no-parent : (r f : Field) → parentFaults own s r f ≡ [] → textIn s r ≡ none → textIn s f ≡ none
+  unfolding textIn isPresent
+  no-parent r Absent h e = refl
+  no-parent Absent (First k) h e = absurd (false≢true (parent-rules Absent k h .1))
+  no-parent (First j) (First k) h e = let z : _≡_ {A = ℕ} 0 1 = cc in absurd (omega arith)
 
-  after-fields : holds (familyRules own s at ++ (each (nodeMember s) s (field s at nodes) ∷ [])) ≡ true
-  after-fields = holds-second (fieldRules s at) (familyRules own s at ++ (each (nodeMember s) s (field s at nodes) ∷ [])) after-json
+-- ---- the fields, one by one
 
-  its-family : holds (familyRules own s at) ≡ true
-  its-family = holds-first (familyRules own s at) (each (nodeMember s) s (field s at nodes) ∷ []) after-fields
+module _ (own s : List ℕ) (at : ℕ) (h : deviceFaults own s at ≡ []) where
+  fields-none : deviceFieldFaults own s at ≡ []
+  unfolding deviceFaults
+  fields-none = kind-none (isObject s at) at (deviceFieldFaults own s at) h .1
 
-  its-nodes : each (nodeMember s) s (field s at nodes) ≡ true
-  its-nodes = rule-at (each (nodeMember s) s (field s at nodes) ∷ []) 0 (holds-second (familyRules own s at) (each (nodeMember s) s (field s at nodes) ∷ []) after-fields)
+  related : rootFaults own s (field s at root) ++ (parentFaults own s (field s at root) (field s at parent) ++ nodesFaults s (field s at nodes)) ≡ []
+  unfolding deviceFieldFaults
+  related =
+      let l = rootFaults own s (field s at root) ++ (parentFaults own s (field s at root) (field s at parent) ++ nodesFaults s (field s at nodes)) in
+      both-none (otherFaults s at) l
+      (both-none (versionFaults s at (field s at version)) (otherFaults s at ++ l)
+      (both-none (homieFaults s at (field s at homie)) (versionFaults s at (field s at version) ++ (otherFaults s at ++ l))
+      (both-none (nameFaults owner.Device s at) (homieFaults s at (field s at homie) ++ (versionFaults s at (field s at version) ++ (otherFaults s at ++ l))) fields-none .1) .1) .1) .1
 
-  a-root : optional Id s (field s at root) ≡ true
-  unfolding fieldRules otherRules
-  a-root = rule-at (fieldRules s at) 8 its-fields
+  root-none : rootFaults own s (field s at root) ≡ []
+  root-none = both-none (rootFaults own s (field s at root)) (parentFaults own s (field s at root) (field s at parent) ++ nodesFaults s (field s at nodes)) related .0
 
-  a-parent : optional Id s (field s at parent) ≡ true
-  unfolding fieldRules otherRules
-  a-parent = rule-at (fieldRules s at) 9 its-fields
+  behind-root : parentFaults own s (field s at root) (field s at parent) ++ nodesFaults s (field s at nodes) ≡ []
+  behind-root = both-none (rootFaults own s (field s at root)) (parentFaults own s (field s at root) (field s at parent) ++ nodesFaults s (field s at nodes)) related .1
 
-  root-first : (not (isPresent (field s at parent)) || isPresent (field s at root)) ≡ true
-  unfolding familyRules
-  root-first = rule-at (familyRules own s at) 0 its-family
+  parent-none : parentFaults own s (field s at root) (field s at parent) ≡ []
+  parent-none = both-none (parentFaults own s (field s at root) (field s at parent)) (nodesFaults s (field s at nodes)) behind-root .0
 
-  other-root : isOther own s (field s at root) ≡ true
-  unfolding familyRules
-  other-root = rule-at (familyRules own s at) 1 its-family
-
-  other-parent : isOther own s (field s at parent) ≡ true
-  unfolding familyRules
-  other-parent = rule-at (familyRules own s at) 2 its-family
+  nodes-none : nodesFaults s (field s at nodes) ≡ []
+  nodes-none = both-none (parentFaults own s (field s at root) (field s at parent)) (nodesFaults s (field s at nodes)) behind-root .1
 
   all-valid : (p : Property) → In p (insertAll (declared s at) []) → Valid p
   unfolding declared
   all-valid p i = go (put-in (declared s at) [] i)
     where
       go : In p (declared s at) ⊎ In p [] → Valid p
-      go (inl j) = valid s (field s at nodes) its-nodes p j
+      go (inl j) = ofNodes.valid s (field s at nodes) nodes-none p j
       go (inr j) = in-none j
 
   pub in-place : Arranged (declared s at) (insertAll (declared s at) [])
   unfolding declared
-  in-place = in-order (declared s at) (apart s (field s at nodes) its-nodes)
+  in-place = in-order (declared s at) (ofNodes.apart s (field s at nodes) nodes-none)
 
-  pub declares-at : leb (length (declared s at)) 24 ≡ true → Declares own (describedIn s at)
+  few : length (declared s at) ≤ 24
+  unfolding declared
+  few = ofNodes.few s (field s at nodes) nodes-none
+
+  pub declares-at : Declares own (describedIn s at)
   unfolding describedIn
-  declares-at n =
-      let k = leb-true (length (declared s at)) 24 n in
-      record {
-        root = λ id e. other-id own s (field s at root) id a-root other-root e;
-        parent = λ id e. other-id own s (field s at parent) id a-parent other-parent e;
-        needs = λ e. no-parent own s (field s at root) (field s at parent) a-root root-first e;
-        valid = all-valid;
-        few = omega (arith, k, in-place .long);
-        ascending = in-place .ascending;
-      }
+  declares-at = record {
+    root = λ id e. root-other own s (field s at root) id root-none e;
+    parent = λ id e. parent-other own s (field s at root) (field s at parent) id parent-none e;
+    needs = λ e. no-parent own s (field s at root) (field s at parent) parent-none e;
+    valid = all-valid;
+    few = omega (arith, few, in-place .long);
+    ascending = in-place .ascending;
+  }
 
--- what is given is what the rules allow
+-- ---- what is given has no fault
+
+-- by cases of what is told, with its equation
+by-cases {ℓ} : {X : Type ℓ} (t : Told) → (t ≡ Nothing → X) → ((q n : ℕ) → t ≡ At q n → X) → X
+by-cases Nothing f g = f refl
+by-cases (At q n) f g = g q n refl
+
 module _ (own s : List ℕ) {x : Described} (e : describe own s ≡ gives x) where
-  pub kept-rules : holds (rules own s) ≡ true
-  kept-rules = both (holds (rules own s)) (λ h. h) (λ h. let y = refuses own s h in let z : _≡_ {A = ℕ} 0 1 = cc in absurd (omega arith))
+  nothing-told : told own s ≡ Nothing
+  nothing-told = by-cases (told own s) (λ t. t) (λ q n t. let y = told-at own s t in let z : _≡_ {A = ℕ} 0 1 = cc in absurd (omega arith))
+
+  no-place : badPlaces s ≡ []
+  no-place = go (badPlaces s) refl
+    where
+      some-place : {p : ℕ} {ps : List ℕ} → p ∷ ps ≡ [] → ⊥
+      some-place q = let z : _≡_ {A = ℕ} 0 1 = cc in omega arith
+
+      go : (ps : List ℕ) → badPlaces s ≡ ps → badPlaces s ≡ []
+      go [] q = q
+      go (p ∷ ps) q = absurd (at-nothing (sym (wrong-told own s (λ z. some-place (sym q ∙ z))) ∙ nothing-told))
+
+  pub no-fault : deviceFaults own s (ws s 0) ≡ []
+  no-fault = least-nothing (deviceFaults own s (ws s 0)) (sym (right-told own s no-place) ∙ nothing-told)
 
   pub given-is : describedIn s (ws s 0) ≡ x
-  given-is = let y = takes own s kept-rules in cc
-
-  valid-rules : holds (validRules own s (ws s 0)) ≡ true
-  unfolding rules
-  valid-rules = holds-first (validRules own s (ws s 0)) (leb (length (declared s (ws s 0))) 24 ∷ []) kept-rules
+  given-is = let y = told-nothing own s nothing-told in cc
 
   pub declares : Declares own x
-  unfolding rules
-  declares =
-      let n = rule-at (leb (length (declared s (ws s 0))) 24 ∷ []) 0 (holds-second (validRules own s (ws s 0)) (leb (length (declared s (ws s 0))) 24 ∷ []) kept-rules) in
-      rw (sym given-is) (declares-at own s (ws s 0) valid-rules n)
+  declares = rw (sym given-is) (declares-at own s (ws s 0) no-fault)
 
   pub arranges : Arranged (declared s (ws s 0)) (x .properties)
   unfolding describedIn
-  arranges = rw (sym (ap (λ (y : Described). y .properties) given-is)) (in-place own s (ws s 0) valid-rules)
+  arranges = rw (sym (ap (λ (y : Described). y .properties) given-is)) (in-place own s (ws s 0) no-fault)

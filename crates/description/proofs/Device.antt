@@ -9,22 +9,29 @@ use mathlib.Core.Option.{Option, none, some}
 use lib.ListN.{length, take, drop, getD, length-drop, drop-of-length-le}
 use lib.Seq.{drop-cons, take-all}
 use lib.Dec.{eqb, leb}
-use lib.IntN.{ℤ, pos}
+use lib.IntN.{ℤ}
 use borrow.Author.Tests.{ne-eqb, eq-eqb, le-leb, lt-leb}
 use Rattle.text.specs.Bytes.{eqBytes, slice}
+use Rattle.text.specs.Ids.{isId}
+use Rattle.text.specs.Ascii.{ascii}
+use Rattle.text.proofs.Bytes.{both}
 use Rattle.numbers.specs.Digits.{isDigit}
 use Rattle.numbers.specs.Integer.{integer, integerRead}
 use Rattle.numbers.specs.Whole.{stands}
 use Rattle.numbers.specs.declared.integers.IntegerRead.{IntegerRead}
-use Rattle.numbers.specs.declared.integers.IntegerRead.the-variants.{Value, Nothing}
-use Rattle.fields.specs.Values.{valueBytes, stringBytes, isStringAt}
-use Rattle.fields.specs.Fields.{holds, field, isPresent}
+use Rattle.numbers.specs.declared.integers.IntegerRead.the-variants as read
+use Rattle.faults.specs.declared.Told.{Told}
+use Rattle.faults.specs.declared.Told.the-variants.{Nothing, At}
+use Rattle.faults.specs.Faults.{Fault, isEarlier, earlier, least, otherRule, _otherwise_}
+use Rattle.faults.proofs.Laws.{is-beside, earlier-first, earlier-none, earlier-comm, earlier-assoc, at-nothing, least-one, rule-holds, rule-broken, join-told, least-join}
+use Rattle.fields.specs.Values.{valueBytes, stringBytes, isStringAt, isNumberAt}
+use Rattle.fields.specs.Fields.{isPresent, ofKind, closeAt}
 use Rattle.fields.specs.declared.Field.{Field}
-use Rattle.fields.specs.declared.Field.the-variants.{Absent, One, Twice}
-use Rattle.fields.proofs.Rules.{broken, kept, last}
-use Rattle.text.specs.Ascii.{ascii}
-use Rattle.description.specs.Names.{version, root, parent}
-use Rattle.description.specs.Description.{allDigits, minorRules, isHomie, homieIn, versionIn, isNumber, isOther, numberOf}
+use Rattle.fields.specs.declared.Field.the-variants.{Absent, First}
+use Rattle.fields.proofs.Values.{kind-other, kind-right}
+use Rattle.description.specs.declared.VersionRead.{VersionRead}
+use Rattle.description.specs.Description.{allDigits, isMinor, isHomie, homieFaults, versionIn, isNumber, versionFaults, relativeFaults, rootFaults, parentFaults}
+use Rattle.description.specs.Parts.{ReadsVersion}
 
 -- ---- digits
 
@@ -50,23 +57,23 @@ module _ (t : List ℕ) (i : ℕ) where
 -- ---- the minor version
 
 module _ (t : List ℕ) where
-  pub minor-none : length t < 1 → false ≡ holds (minorRules t)
-  unfolding minorRules
-  minor-none h = broken _ (sym (lt-leb 1 (length t) h)) refl
+  pub minor-none : length t < 1 → false ≡ isMinor t
+  unfolding isMinor
+  minor-none h = rw (lt-leb 1 (length t) h)
 
   module _ (h : 1 ≤ length t) where
-    pub minor-long : 3 < length t → false ≡ holds (minorRules t)
-    unfolding minorRules
-    minor-long k = kept _ (sym (le-leb 1 (length t) h)) refl (broken _ (sym (lt-leb (length t) 3 k)) refl)
+    pub minor-long : 3 < length t → false ≡ isMinor t
+    unfolding isMinor
+    minor-long k = rw (le-leb 1 (length t) h, lt-leb (length t) 3 k)
 
     module _ (k : length t ≤ 3) {b : Bool} (p : b ≡ allDigits t) where
-      pub minor-other : b ≡ false → false ≡ holds (minorRules t)
-      unfolding minorRules
-      minor-other e = kept _ (sym (le-leb 1 (length t) h)) refl (kept _ (sym (le-leb (length t) 3 k)) refl (broken _ p e))
+      pub minor-other : b ≡ false → false ≡ isMinor t
+      unfolding isMinor
+      minor-other e = rw (le-leb 1 (length t) h, le-leb (length t) 3 k, sym p ∙ e)
 
-      pub minor-last : {r : Bool} → b ≡ true → r ≡ (not (eqb (getD t 0 0) 48) || eqb (length t) 1) → r ≡ holds (minorRules t)
-      unfolding minorRules
-      minor-last e x = kept _ (sym (le-leb 1 (length t) h)) refl (kept _ (sym (le-leb (length t) 3 k)) refl (kept _ p e (last x)))
+      pub minor-last : {r : Bool} → b ≡ true → r ≡ (not (eqb (getD t 0 0) 48) || eqb (length t) 1) → r ≡ isMinor t
+      unfolding isMinor
+      minor-last e x = x ∙ rw (le-leb 1 (length t) h, le-leb (length t) 3 k, sym p ∙ e)
 
   pub no-zero : (getD t 0 0 ≡ 48 → ⊥) → true ≡ (not (eqb (getD t 0 0) 48) || eqb (length t) 1)
   no-zero n = rw (ne-eqb (getD t 0 0) 48 n)
@@ -81,96 +88,138 @@ module _ (t : List ℕ) {u : List ℕ} {b : Bool} (x : u ≡ slice t 0 2) (p : b
   unfolding isHomie
   homie-other e = rw (sym (p ∙ ap (λ (v : List ℕ). eqBytes v (ascii "5.")) x) ∙ e)
 
-  pub homie-minor : {v : List ℕ} {r : Bool} → b ≡ true → v ≡ slice t 2 (length t) → r ≡ holds (minorRules v) → r ≡ isHomie t
+  pub homie-minor : {v : List ℕ} {r : Bool} → b ≡ true → v ≡ slice t 2 (length t) → r ≡ isMinor v → r ≡ isHomie t
   unfolding isHomie
   homie-minor {v} e y z =
       let w : slice t 2 (length t) ≡ drop 2 t = take-all (length t - 2) (drop 2 t) (rw (length-drop 2 t) (omega arith)) in
-      z ∙ ap (λ (l : List ℕ). holds (minorRules l)) (y ∙ w) ∙ rw (sym (p ∙ ap (λ (l : List ℕ). eqBytes l (ascii "5.")) x) ∙ e)
+      z ∙ ap isMinor (y ∙ w) ∙ rw (sym (p ∙ ap (λ (l : List ℕ). eqBytes l (ascii "5.")) x) ∙ e)
 
-module _ (s : List ℕ) {f : Field} where
-  pub homie-absent : f ≡ Absent → false ≡ homieIn s f
-  unfolding homieIn
-  homie-absent q = rw q
+-- ---- what is told of a required field
 
-  pub homie-twice : f ≡ Twice → false ≡ homieIn s f
-  unfolding homieIn
-  homie-twice q = rw q
+module _ (s : List ℕ) (at : ℕ) {f : Field} where
+  pub homie-missing : {c : ℕ} → f ≡ Absent → c ≡ closeAt s at → At c 23 ≡ least (homieFaults s at f)
+  unfolding homieFaults
+  homie-missing e q = rw (e, q) (least-one (closeAt s at) 23)
 
-  module _ {k : ℕ} (q : f ≡ One k) {b : Bool} (p : b ≡ isStringAt s k) where
-    pub homie-no-text : b ≡ false → false ≡ homieIn s f
-    unfolding homieIn
-    homie-no-text e = rw (q, sym p ∙ e)
+  module _ {k : ℕ} (e : f ≡ First k) {b : Bool} (p : b ≡ isStringAt s k) where
+    pub homie-kind : b ≡ false → At k 22 ≡ least (homieFaults s at f)
+    unfolding homieFaults
+    homie-kind x = rw e (kind-other k _ p x)
 
-    pub homie-text : {t : List ℕ} {r : Bool} → b ≡ true → t ≡ stringBytes s k → r ≡ isHomie t → r ≡ homieIn s f
-    unfolding homieIn
-    homie-text e y z = z ∙ ap isHomie y ∙ sym (rw (q, sym p ∙ e))
+    module _ {t : List ℕ} {r : Bool} (x : b ≡ true) (y : t ≡ stringBytes s k) (z : r ≡ isHomie t) where
+      pub homie-right : r ≡ true → Nothing ≡ least (homieFaults s at f)
+      unfolding homieFaults
+      homie-right w = rw e (kind-right k _ p x (rule-holds (isHomie (stringBytes s k)) (otherRule k) (sym (z ∙ ap isHomie y) ∙ w)))
 
--- ---- version
+      pub homie-wrong : r ≡ false → At k 25 ≡ least (homieFaults s at f)
+      unfolding homieFaults
+      homie-wrong w = rw e (kind-right k _ p x (rule-broken (isHomie (stringBytes s k)) (otherRule k) (sym (z ∙ ap isHomie y) ∙ w)))
 
-module _ (s : List ℕ) {f : Field} where
-  pub version-absent : f ≡ Absent → none ≡ versionIn s f
-  unfolding versionIn
-  version-absent q = rw q
+-- ---- the version
 
-  pub version-twice : f ≡ Twice → none ≡ versionIn s f
-  unfolding versionIn
-  version-twice q = rw q
+-- something is told, so no version is promised
+version-told : (s : List ℕ) (at : ℕ) {f : Field} {r : VersionRead} {p n : ℕ} → r .told ≡ At p n → At p n ≡ least (versionFaults s at f) → ReadsVersion s at f r
+version-told s at e h = record { told = e ∙ h; value = λ z. absurd (at-nothing (sym e ∙ z)) }
 
-  pub version-one : {k : ℕ} {t : List ℕ} {o : Option ℤ} → f ≡ One k → t ≡ valueBytes s k → o ≡ integer t → o ≡ versionIn s f
-  unfolding versionIn
-  version-one q y z = z ∙ ap integer y ∙ sym (rw q)
+-- what was read of a value is what it holds
+held : (s : List ℕ) (k : ℕ) {v : List ℕ} → v ≡ valueBytes s k → (i : IntegerRead) → integerRead i ≡ integer v → integer (valueBytes s k) ≡ integerRead i
+held s k y i z = ap integer (sym y) ∙ sym z
 
--- what was read of a field's place is what the field holds
-module _ (s : List ℕ) {f g : Field} (e : f ≡ g) (r : IntegerRead) (p : integerRead r ≡ versionIn s f) where
-  held : versionIn s g ≡ integerRead r
-  held = ap (versionIn s) (sym e) ∙ sym p
+module _ (s : List ℕ) (at : ℕ) {f : Field} {r : VersionRead} where
+  pub version-missing : {c : ℕ} → f ≡ Absent → c ≡ closeAt s at → r .told ≡ At c 23 → ReadsVersion s at f r
+  unfolding versionFaults
+  version-missing e q t = version-told s at t (rw (e, q) (least-one (closeAt s at) 23))
 
-  pub number-yes : {n : ℕ} → r ≡ Value n → true ≡ isNumber (versionIn s g)
-  unfolding isNumber
-  number-yes q = sym (ap isNumber (held ∙ ap integerRead q))
+  module _ {k : ℕ} (e : f ≡ First k) {b : Bool} (p : b ≡ isNumberAt s k) where
+    pub version-kind : b ≡ false → r .told ≡ At k 22 → ReadsVersion s at f r
+    unfolding versionFaults
+    version-kind x t = version-told s at t (rw e (kind-other k _ p x))
 
-  pub number-no : r ≡ Nothing → false ≡ isNumber (versionIn s g)
-  unfolding isNumber
-  number-no q = sym (ap isNumber (held ∙ ap integerRead q))
+    module _ {v : List ℕ} (x : b ≡ true) (y : v ≡ valueBytes s k) (i : IntegerRead) (z : integerRead i ≡ integer v) where
+      pub version-wrong : i ≡ read.Nothing → r .told ≡ At k 25 → ReadsVersion s at f r
+      unfolding versionFaults isNumber
+      version-wrong q t = version-told s at t (rw e (kind-right k _ p x (rule-broken (isNumber (integer (valueBytes s k))) (otherRule k) (ap isNumber (held s k y i z ∙ ap integerRead q)))))
 
-  pub number-is : {n : ℕ} → r ≡ Value n → stands (2 ^ 63) n ≡ numberOf (versionIn s g)
-  unfolding numberOf
-  number-is q = sym (ap numberOf (held ∙ ap integerRead q))
-
-  pub number-none : r ≡ Nothing → stands (2 ^ 63) 9223372036854775808 ≡ numberOf (versionIn s g)
-  unfolding numberOf
-  number-none q = sym (ap numberOf (held ∙ ap integerRead q))
+      pub version-right : {n : ℕ} → i ≡ read.Value n → r .told ≡ Nothing → r .value ≡ n → ReadsVersion s at f r
+      unfolding versionFaults versionIn isNumber
+      version-right q t w = record {
+        told = t ∙ rw e (kind-right k _ p x (rule-holds (isNumber (integer (valueBytes s k))) (otherRule k) (ap isNumber (held s k y i z ∙ ap integerRead q))));
+        value = λ u. rw (e, w) (held s k y i z ∙ ap integerRead q);
+      }
 
 -- ---- root and parent
 
+-- a second fault at one place, of the same number
+twice : (k : ℕ) (t : Bool) → earlier (least (t otherwise otherRule k)) (At k 25) ≡ At k 25
+unfolding earlier
+twice k t = both t
+    (λ e. ap (λ (u : Told). earlier u (At k 25)) (sym (rule-holds t (otherRule k) e)))
+    (λ e. ap (λ (u : Told). earlier u (At k 25)) (sym (rule-broken t (otherRule k) e)) ∙ earlier-first k 25 k 25 (sym (is-beside k 25 k 25 refl)))
+
+module _ (own s : List ℕ) (k : ℕ) {t : List ℕ} (x : t ≡ stringBytes s k) {b : Bool} (p : b ≡ isId t) where
+  id-is : b ≡ isId (stringBytes s k)
+  id-is = p ∙ ap isId x
+
+  pub relative-no-id : b ≡ false → At k 25 ≡ least (relativeFaults own s k)
+  unfolding relativeFaults
+  relative-no-id e =
+      sym (twice k (not (eqBytes (stringBytes s k) own))) ∙
+      (flip (least (not (eqBytes (stringBytes s k) own) otherwise otherRule k)) ∙
+      join-told (isId (stringBytes s k) otherwise otherRule k) (not (eqBytes (stringBytes s k) own) otherwise otherRule k) (rule-broken (isId (stringBytes s k)) (otherRule k) (sym id-is ∙ e)) refl)
+    where
+      flip : (u : Told) → earlier u (At k 25) ≡ earlier (At k 25) u
+      flip u = earlier-comm u (At k 25)
+
+  module _ (e : b ≡ true) {c : Bool} (q : c ≡ eqBytes t own) where
+    same-is : c ≡ eqBytes (stringBytes s k) own
+    same-is = q ∙ ap (λ (u : List ℕ). eqBytes u own) x
+
+    pub relative-own : c ≡ true → At k 25 ≡ least (relativeFaults own s k)
+    unfolding relativeFaults earlier
+    relative-own y = join-told (isId (stringBytes s k) otherwise otherRule k) (not (eqBytes (stringBytes s k) own) otherwise otherRule k) (rule-holds (isId (stringBytes s k)) (otherRule k) (sym id-is ∙ e)) (rule-broken (not (eqBytes (stringBytes s k) own)) (otherRule k) (ap not (sym same-is ∙ y)))
+
+    pub relative-other : c ≡ false → Nothing ≡ least (relativeFaults own s k)
+    unfolding relativeFaults earlier
+    relative-other y = join-told (isId (stringBytes s k) otherwise otherRule k) (not (eqBytes (stringBytes s k) own) otherwise otherRule k) (rule-holds (isId (stringBytes s k)) (otherRule k) (sym id-is ∙ e)) (rule-holds (not (eqBytes (stringBytes s k) own)) (otherRule k) (ap not (sym same-is ∙ y)))
+
 module _ (own s : List ℕ) {f : Field} where
-  pub other-absent : f ≡ Absent → true ≡ isOther own s f
-  unfolding isOther
-  other-absent q = rw q
+  pub root-absent : f ≡ Absent → Nothing ≡ least (rootFaults own s f)
+  unfolding rootFaults least
+  root-absent e = rw e
 
-  pub other-twice : f ≡ Twice → true ≡ isOther own s f
-  unfolding isOther
-  other-twice q = rw q
+  module _ {k : ℕ} (e : f ≡ First k) {b : Bool} (p : b ≡ isStringAt s k) where
+    pub root-kind : b ≡ false → At k 22 ≡ least (rootFaults own s f)
+    unfolding rootFaults
+    root-kind x = rw e (kind-other k _ p x)
 
-  pub other-one : {k : ℕ} {t : List ℕ} {b : Bool} → f ≡ One k → t ≡ stringBytes s k → b ≡ eqBytes t own → not b ≡ isOther own s f
-  unfolding isOther
-  other-one q y z = ap not (z ∙ ap (λ (u : List ℕ). eqBytes u own) y) ∙ sym (rw q)
+    pub root-right : {t : Told} → b ≡ true → t ≡ least (relativeFaults own s k) → t ≡ least (rootFaults own s f)
+    unfolding rootFaults
+    root-right x h = rw e (kind-right k _ p x h)
 
-module _ {f : Field} where
-  pub present-no : f ≡ Absent → false ≡ isPresent f
-  unfolding isPresent
-  present-no q = rw q
+module _ (own s : List ℕ) (root : Field) {f : Field} where
+  pub parent-absent : f ≡ Absent → Nothing ≡ least (parentFaults own s root f)
+  unfolding parentFaults least
+  parent-absent e = rw e
 
-  pub present-one : {k : ℕ} → f ≡ One k → true ≡ isPresent f
-  unfolding isPresent
-  present-one q = rw q
+  module _ {k : ℕ} (e : f ≡ First k) {b : Bool} (p : b ≡ isStringAt s k) where
+    pub parent-kind : b ≡ false → At k 22 ≡ least (parentFaults own s root f)
+    unfolding parentFaults
+    parent-kind x = rw e (kind-other k _ p x)
 
-  pub present-twice : f ≡ Twice → true ≡ isPresent f
-  unfolding isPresent
-  present-twice q = rw q
+    module _ (x : b ≡ true) {c : Bool} (q : c ≡ isPresent root) where
+      pub parent-alone : c ≡ false → At k 25 ≡ least (parentFaults own s root f)
+      unfolding parentFaults relativeFaults
+      parent-alone y =
+          let a = isId (stringBytes s k) in
+          let o = not (eqBytes (stringBytes s k) own) in
+          let fa = a otherwise otherRule k in
+          let fo = o otherwise otherRule k in
+          rw e (kind-right k _ p x
+          (sym (twice k a) ∙
+          (ap (earlier (least fa)) (sym (twice k o)) ∙
+          (sym (earlier-assoc (least fa) (least fo) (At k 25)) ∙
+          join-told (fa ++ fo) (isPresent root otherwise otherRule k) (sym (least-join fa fo)) (rule-broken (isPresent root) (otherRule k) (sym q ∙ y))))))
 
-pub needs-nothing : (a b : Bool) {t : Bool} → t ≡ a → t ≡ false → true ≡ (not a || b)
-needs-nothing a b p e = rw (sym p ∙ e)
-
-pub needs-root : (a b : Bool) {t r : Bool} → t ≡ a → t ≡ true → r ≡ b → r ≡ (not a || b)
-needs-root a b p e x = x ∙ rw (sym p ∙ e)
+      pub parent-right : {t : Told} → c ≡ true → t ≡ least (relativeFaults own s k) → t ≡ least (parentFaults own s root f)
+      unfolding parentFaults
+      parent-right {t} y h = rw e (kind-right k _ p x (sym (earlier-none t) ∙ join-told (relativeFaults own s k) (isPresent root otherwise otherRule k) h (rule-holds (isPresent root) (otherRule k) (sym q ∙ y))))

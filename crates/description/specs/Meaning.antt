@@ -2,18 +2,15 @@
 use Prim.Native.Nat.{ℕ, _^_, _≤_}
 use mathlib.Core.Path.{_≡_}
 use mathlib.Core.List.{List}
-use mathlib.Core.Bool.{true, false}
-use mathlib.Core.Option.{Option, none, some}
-use lib.ListN.{take}
-use Rattle.answer.specs.Answer.{Answer, refused, gives, require}
+use lib.Dec.{leb}
+use Rattle.answer.specs.Answer.{Answer, gives, require}
 use Rattle.numbers.specs.Whole.{stands}
+use Rattle.faults.specs.declared.Told.the-variants.{Nothing}
 use Rattle.fields.specs.Fields.{textIn}
 use Rattle.properties.specs.Property.{Property}
-use Rattle.properties.specs.Entries.{contents, view}
+use Rattle.properties.specs.Entries.{propertiesMost, view}
 use Rattle.description.specs.declared.Description.{Description}
-use Rattle.description.specs.declared.Verdict.{Verdict}
-use Rattle.description.specs.declared.Verdict.the-variants.{Taken, Refused}
-use Rattle.description.specs.Description.{Described}
+use Rattle.description.specs.Description.{Described, answered}
 
 -- what a description with these properties shows of the text s that it was read from
 unfoldable pub shown : List ℕ → Description → List Property → Described
@@ -24,24 +21,18 @@ shown s d ps = record {
   properties = ps;
 }
 
--- a taken description has its list of properties; 0, which is no refusal, would stand for one that has none
-unfoldable pub listed : List ℕ → Description → Option (List Property) → Answer Described
-listed s d none = refused 0
-listed s d (some ps) = gives (shown s d ps)
+-- a taken description has at most 24 properties; 0, which is no refusal, would stand for one that has more
+unfoldable pub listed : List ℕ → Description → Answer Described
+listed s d = require (leb (d .properties .n) propertiesMost) 0 (gives (shown s d (view s (d .properties))))
 
 unfoldable pub meaning : List ℕ → Description → Answer Described
-meaning s d = require (d .taken) 15 (listed s d (view s (d .properties)))
+meaning s d = answered (d .told) (listed s d)
 
 -- the same, field by field: a description that is taken and declares x
 pub record Shows (s : List ℕ) (d : Description) (x : Described) : Type 0 where
-  pub taken : d .taken ≡ true
+  pub taken : d .told ≡ Nothing
   pub root : textIn s (d .root) ≡ x .root
   pub parent : textIn s (d .parent) ≡ x .parent
   pub version : stands (2 ^ 63) (d .version) ≡ x .version
-  pub over : d .properties .over ≡ false
-  pub few : d .properties .n ≤ 24
-  pub properties : contents s (take (d .properties .n) (d .properties .items)) ≡ x .properties
-
-unfoldable pub verdict : Verdict → Answer (Unit {0})
-verdict Taken = gives tt
-verdict (Refused n) = refused n
+  pub few : d .properties .n ≤ propertiesMost
+  pub properties : view s (d .properties) ≡ x .properties

@@ -1,37 +1,48 @@
 // A device's description: judged, and what it declares.
+use faults::MISSING;
+use faults::NOT_JSON;
+use faults::OTHER_RULE;
+use faults::Told;
+use faults::WRONG_KIND;
 use fields::Field;
 use fields::Kind;
+use fields::Known;
+use fields::Owner;
 use json::Scan;
 use numbers::integers::IntegerRead;
 use properties::Entries;
 ghost use mathlib.Core.Path.{_≡_};
-ghost use mathlib.Core.Bool.{not, _||_};
-ghost use mathlib.Core.List.{List};
-ghost use Prim.Native.Nat.{ℕ};
-ghost use lib.Dec.{ltb};
-ghost use Rattle.answer.specs.Answer.{require, gives};
-ghost use Rattle.answer.specs.Answer as Answer;
-ghost use Rattle.numbers.specs.Integer.{integerRead};
-ghost use Rattle.json.specs.Bytes.{ws};
+ghost use mathlib.Core.Bool.{true};
+ghost use Prim.Native.Nat.{_≤_};
+ghost use lib.ListN.{length};
+ghost use Rattle.text.specs.Utf8.{isUtf8};
+ghost use Rattle.json_grammar.specs.Place.{faultPlace};
+ghost use Rattle.faults.specs.Faults.{least};
+ghost use Rattle.faults.specs.declared.Told.the-variants.{At};
 ghost use Rattle.json.specs.Ends.{Ends};
-ghost use Rattle.fields.specs.Fields.{holds, isPresent};
-ghost use Rattle.fields.specs.Known.{fieldAt};
-ghost use Rattle.description.specs.Description.{allDigits, minorRules, isHomie, homieIn, versionIn, isOther, rules, declared, describedIn, describe};
-ghost use Rattle.description.specs.Parts.{otherRulesIn, familyRulesIn, restRules, declaredIn, describedBy, counted, deviceRules, textRules};
-ghost use Rattle.description.specs.Meaning.{meaning, verdict};
+ghost use Rattle.fields.specs.Known.{Knows};
+ghost use Rattle.fields.specs.declared.Owner.the-variants as owner;
+ghost use Rattle.description.specs.Description.{allDigits, isMinor, isHomie, homieFaults, relativeFaults, rootFaults, parentFaults, deviceFieldFaults, deviceFaults, told, describe};
+ghost use Rattle.description.specs.Parts.{ReadsVersion, otherFaultsIn, relativesIn, Tells};
+ghost use Rattle.description.specs.Meaning.{meaning};
 
-// Whether a description is taken, and what it declares: `version` stands for the number less 2^63, root and parent are places in the text.
+// The most bytes that a description may have.
+const MOST: usize = 8192;
+
+// What is told of a description's faults, and if there is none, what it declares: `version` stands for the number less 2^63, root and parent are places in
+// the text.
 pub struct Description {
-    pub taken: bool,
+    pub told: Told,
     pub version: u64,
     pub root: Field,
     pub parent: Field,
     pub properties: Entries,
 }
 
-pub enum Verdict {
-    Taken,
-    Refused(u8),
+// A device's version, with what is told of its faults.
+pub struct VersionRead {
+    pub told: Told,
+    pub value: u64,
 }
 
 fn are_digits(t: &[u8]) -> bool
@@ -52,7 +63,7 @@ fn are_digits(t: &[u8]) -> bool
 
 // Whether the bytes are 1 to 3 digits, with no leading zero unless they are `0`.
 fn is_minor(t: &[u8]) -> bool
-    ensures { λ r. ⌜ r ≡ holds (minorRules (now (t .entry))) ⌝ }
+    ensures { λ r. ⌜ r ≡ isMinor (now (t .entry)) ⌝ }
 {
     if t.len() < 1 {
         return false;
@@ -79,111 +90,130 @@ fn is_homie(t: &[u8]) -> bool
     is_minor(text::slice(t, 2, t.len()))
 }
 
-fn has_homie(s: &[u8], f: Field, ends: &[u16]) -> bool
-    ensures { λ r. ⌜ (Ends (now (s .entry)) (now (ends .entry)) → r ≡ homieIn (now (s .entry)) f) ⌝ }
+// What is told of `homie` in the object at `at`.
+fn homie_told(s: &[u8], at: usize, f: Field, ends: &[u16]) -> Told
+    ensures { λ r. ⌜ (Ends (now (s .entry)) (now (ends .entry)) → r ≡ least (homieFaults (now (s .entry)) at f)) ⌝ }
 {
-    match f {
-        Field::Absent => false,
-        Field::One(k) => {
-            if !fields::is_string(s, k) {
-                return false;
-            }
-            is_homie(fields::string_bytes_by(s, k, ends))
-        }
-        Field::Twice => false,
+    let Field::First(k) = f else {
+        return Told::At(fields::close_of(s, at, ends), MISSING);
+    };
+    if !fields::is_string(s, k) {
+        return Told::At(k, WRONG_KIND);
+    }
+    if is_homie(fields::string_bytes_by(s, k, ends)) {
+        return Told::Nothing;
+    }
+    Told::At(k, OTHER_RULE)
+}
+
+// No version, since this is told of it.
+fn no_version(told: Told) -> VersionRead
+    ensures { λ r. ⌜ r .told ≡ told ⌝ }
+{
+    VersionRead {
+        told: told,
+        value: 0,
     }
 }
 
-// The number that a field holds.
-fn version_in(s: &[u8], f: Field, ends: &[u16]) -> IntegerRead
-    ensures { λ r. ⌜ (Ends (now (s .entry)) (now (ends .entry)) → integerRead r ≡ versionIn (now (s .entry)) f) ⌝ }
+// The version that a field holds, of the device whose object is at `at`.
+fn version_of(s: &[u8], at: usize, f: Field, ends: &[u16]) -> VersionRead
+    ensures { λ r. ⌜ (Ends (now (s .entry)) (now (ends .entry)) → ReadsVersion (now (s .entry)) at f r) ⌝ }
 {
-    match f {
-        Field::Absent => IntegerRead::Nothing,
-        Field::One(k) => numbers::integers::read_integer(fields::value_bytes_by(s, k, ends)),
-        Field::Twice => IntegerRead::Nothing,
+    let Field::First(k) = f else {
+        return no_version(Told::At(fields::close_of(s, at, ends), MISSING));
+    };
+    if !fields::is_number(s, k) {
+        return no_version(Told::At(k, WRONG_KIND));
+    }
+    match numbers::integers::read_integer(fields::value_bytes_by(s, k, ends)) {
+        IntegerRead::Nothing => no_version(Told::At(k, OTHER_RULE)),
+        IntegerRead::Value(v) => VersionRead {
+            told: Told::Nothing,
+            value: v,
+        },
     }
 }
 
-// Whether the other known fields of the device stand at most once, each of its kind.
-fn has_others(s: &[u8], seen: &[usize; 32], ends: &[u16]) -> bool
-    ensures { λ r. ⌜ (Ends (now (s .entry)) (now (ends .entry)) → r ≡ holds (otherRulesIn (now (s .entry)) (now (seen .entry)))) ⌝ }
+// What is told of the fields that have no rule but their kind.
+fn others_told(s: &[u8], seen: &[usize; 16], ends: &[u16]) -> Told
+    ensures { λ r. ⌜ (Ends (now (s .entry)) (now (ends .entry)) → r ≡ least (otherFaultsIn (now (s .entry)) (now (seen .entry)))) ⌝ }
 {
-    if !fields::is_optional(s, fields::field_at(seen, fields::NODES), Kind::Object, ends) {
-        return false;
-    }
-    if !fields::is_optional(s, fields::field_at(seen, fields::NAME), Kind::Text, ends) {
-        return false;
-    }
-    if !fields::is_optional(s, fields::field_at(seen, fields::TYPE), Kind::Text, ends) {
-        return false;
-    }
-    if !fields::is_optional(s, fields::field_at(seen, fields::CHILDREN), Kind::Ids, ends) {
-        return false;
-    }
-    if !fields::is_optional(s, fields::field_at(seen, fields::ROOT), Kind::Id, ends) {
-        return false;
-    }
-    if !fields::is_optional(s, fields::field_at(seen, fields::PARENT), Kind::Id, ends) {
-        return false;
-    }
-    fields::is_optional(
+    let nodes = fields::field_told(s, fields::field_at(seen, fields::NODES), Kind::Object, ends);
+    let name = fields::field_told(s, fields::field_at(seen, fields::NAME), Kind::Text, ends);
+    let kind = fields::field_told(s, fields::field_at(seen, fields::TYPE), Kind::Text, ends);
+    let children = fields::field_told(s, fields::field_at(seen, fields::CHILDREN), Kind::Ids, ends);
+    let extensions = fields::field_told(
         s,
         fields::field_at(seen, fields::EXTENSIONS),
         Kind::Texts,
         ends,
+    );
+    let arrays = faults::earlier(children, extensions);
+    let texts = faults::earlier(name, faults::earlier(kind, arrays));
+    faults::earlier(nodes, texts)
+}
+
+// What is told of the string at `k`, which should be the ID of another device.
+fn relative_told(own: &[u8], s: &[u8], k: usize, ends: &[u16]) -> Told
+    ensures { λ r. ⌜ (Ends (now (s .entry)) (now (ends .entry)) → r ≡ least (relativeFaults (now (own .entry)) (now (s .entry)) k)) ⌝ }
+{
+    let id = fields::string_bytes_by(s, k, ends);
+    if !text::is_id(id) {
+        return Told::At(k, OTHER_RULE);
+    }
+    if text::same(id, own) {
+        return Told::At(k, OTHER_RULE);
+    }
+    Told::Nothing
+}
+
+fn root_told(own: &[u8], s: &[u8], f: Field, ends: &[u16]) -> Told
+    ensures { λ r. ⌜ (Ends (now (s .entry)) (now (ends .entry)) → r ≡ least (rootFaults (now (own .entry)) (now (s .entry)) f)) ⌝ }
+{
+    let Field::First(root) = f else {
+        return Told::Nothing;
+    };
+    if !fields::is_string(s, root) {
+        return Told::At(root, WRONG_KIND);
+    }
+    relative_told(own, s, root, ends)
+}
+
+// What is told of `parent`, which needs `root`.
+fn parent_told(own: &[u8], s: &[u8], root: Field, f: Field, ends: &[u16]) -> Told
+    ensures { λ r. ⌜ (Ends (now (s .entry)) (now (ends .entry)) → r ≡ least (parentFaults (now (own .entry)) (now (s .entry)) root f)) ⌝ }
+{
+    let Field::First(parent) = f else {
+        return Told::Nothing;
+    };
+    if !fields::is_string(s, parent) {
+        return Told::At(parent, WRONG_KIND);
+    }
+    if !fields::is_present(root) {
+        return Told::At(parent, OTHER_RULE);
+    }
+    relative_told(own, s, parent, ends)
+}
+
+// What is told of root and parent.
+fn relatives_told(own: &[u8], s: &[u8], seen: &[usize; 16], ends: &[u16]) -> Told
+    ensures { λ r. ⌜ (Ends (now (s .entry)) (now (ends .entry)) → r ≡ least (relativesIn (now (own .entry)) (now (s .entry)) (now (seen .entry)))) ⌝ }
+{
+    let root = fields::field_at(seen, fields::ROOT);
+    let parent = fields::field_at(seen, fields::PARENT);
+    faults::earlier(
+        root_told(own, s, root, ends),
+        parent_told(own, s, root, parent, ends),
     )
 }
 
-// Whether a field does not hold the device's own ID.
-fn is_other(own: &[u8], s: &[u8], f: Field, ends: &[u16]) -> bool
-    ensures { λ r. ⌜ (Ends (now (s .entry)) (now (ends .entry)) → r ≡ isOther (now (own .entry)) (now (s .entry)) f) ⌝ }
-{
-    match f {
-        Field::Absent => true,
-        Field::One(k) => !text::same(fields::string_bytes_by(s, k, ends), own),
-        Field::Twice => true,
-    }
-}
-
-fn is_present(f: Field) -> bool
-    ensures { λ r. ⌜ r ≡ isPresent f ⌝ }
-{
-    match f {
-        Field::Absent => false,
-        Field::One(_) => true,
-        Field::Twice => true,
-    }
-}
-
-// Whether there is a root where there is a parent.
-fn has_root(seen: &[usize; 32]) -> bool
-    ensures { λ r. ⌜ r ≡ (not (isPresent (fieldAt (now (seen .entry)) 6)) || isPresent (fieldAt (now (seen .entry)) 3)) ⌝ }
-{
-    if !is_present(fields::field_at(seen, fields::PARENT)) {
-        return true;
-    }
-    is_present(fields::field_at(seen, fields::ROOT))
-}
-
-// Whether root and parent go together and are other devices.
-fn has_family(own: &[u8], s: &[u8], seen: &[usize; 32], ends: &[u16]) -> bool
-    ensures { λ r. ⌜ (Ends (now (s .entry)) (now (ends .entry)) → r ≡ holds (familyRulesIn (now (own .entry)) (now (s .entry)) (now (seen .entry)))) ⌝ }
-{
-    if !has_root(seen) {
-        return false;
-    }
-    if !is_other(own, s, fields::field_at(seen, fields::ROOT), ends) {
-        return false;
-    }
-    is_other(own, s, fields::field_at(seen, fields::PARENT), ends)
-}
-
-fn refused() -> Description
-    ensures { λ r. ⌜ ((s : List ℕ) → meaning s r ≡ Answer.refused 15) ⌝ }
+// A description of which this is told.
+fn refused(told: Told) -> Description
+    ensures { λ r. ⌜ r .told ≡ told ⌝ }
 {
     Description {
-        taken: false,
+        told: told,
         version: 0,
         root: Field::Absent,
         parent: Field::Absent,
@@ -191,102 +221,86 @@ fn refused() -> Description
     }
 }
 
-// Whether a list holds no properties because there were too many.
-fn is_over(over: bool, n: usize) -> bool
-    ensures { λ r. ⌜ r ≡ (over || ltb 24 n) ⌝ }
+// What the device whose object is at `at` and has these fields declares.
+fn device_by(own: &[u8], s: &[u8], at: usize, m: Known, ends: &[u16]) -> Description
+    ensures { λ r. ⌜ (Ends (now (s .entry)) (now (ends .entry)) → Knows owner.Device (now (s .entry)) at m → Tells (deviceFieldFaults (now (own .entry)) (now (s .entry)) at) (now (s .entry)) at r) ⌝ }
 {
-    if over {
-        return true;
-    }
-    n > 24
-}
-
-// What a device with these fields declares, its version read, if its other fields and its nodes are valid.
-fn declare(own: &[u8], s: &[u8], version: u64, seen: &[usize; 32], ends: &[u16]) -> Description
-    ensures { λ r. ⌜ (Ends (now (s .entry)) (now (ends .entry)) → meaning (now (s .entry)) r ≡ require (holds (counted (restRules (now (own .entry)) (now (s .entry)) (now (seen .entry))) (declaredIn (now (s .entry)) (now (seen .entry))))) 15 (gives (describedBy (now (s .entry)) version (now (seen .entry))))) ⌝ }
-{
-    if !has_others(s, seen, ends) {
-        return refused();
-    }
-    if !has_family(own, s, seen, ends) {
-        return refused();
-    }
-    let a = nodes::nodes_in(s, fields::field_at(seen, fields::NODES), ends);
-    let valid = a.valid;
-    let l = a.list;
-    if !valid {
-        return refused();
-    }
-    if is_over(l.over, l.n) {
-        return refused();
-    }
+    let seen = m.seen;
+    let names = m.told;
+    let homie = homie_told(s, at, fields::field_at(&seen, fields::HOMIE), ends);
+    let v = version_of(s, at, fields::field_at(&seen, fields::VERSION), ends);
+    let dated = v.told;
+    let a = nodes::nodes_in(s, fields::field_at(&seen, fields::NODES), ends);
+    let listed = a.told;
+    let list = a.list;
+    let related = faults::earlier(relatives_told(own, s, &seen, ends), listed);
+    let others = faults::earlier(others_told(s, &seen, ends), related);
+    let required = faults::earlier(homie, faults::earlier(dated, others));
     Description {
-        taken: true,
-        version: version,
-        root: fields::field_at(seen, fields::ROOT),
-        parent: fields::field_at(seen, fields::PARENT),
-        properties: l,
+        told: faults::earlier(names, required),
+        version: v.value,
+        root: fields::field_at(&seen, fields::ROOT),
+        parent: fields::field_at(&seen, fields::PARENT),
+        properties: list,
     }
 }
 
-// What the device whose object is at `at` declares, if it is valid.
+// What the device whose object is at `at` declares.
 fn device_at(own: &[u8], s: &[u8], at: usize, ends: &[u16]) -> Description
-    ensures { λ r. ⌜ (Ends (now (s .entry)) (now (ends .entry)) → meaning (now (s .entry)) r ≡ require (holds (counted (deviceRules (now (own .entry)) (now (s .entry)) at) (declared (now (s .entry)) at))) 15 (gives (describedIn (now (s .entry)) at))) ⌝ }
+    ensures { λ r. ⌜ (Ends (now (s .entry)) (now (ends .entry)) → Tells (deviceFaults (now (own .entry)) (now (s .entry)) at) (now (s .entry)) at r) ⌝ }
 {
     if !fields::is_object(s, at) {
-        return refused();
+        return refused(Told::At(at, WRONG_KIND));
     }
-    let m = fields::known_fields(s, at, ends);
-    let plain = m.plain;
-    let seen = m.seen;
-    if !plain {
-        return refused();
-    }
-    if !has_homie(s, fields::field_at(&seen, fields::HOMIE), ends) {
-        return refused();
-    }
-    match version_in(s, fields::field_at(&seen, fields::VERSION), ends) {
-        IntegerRead::Nothing => refused(),
-        IntegerRead::Value(v) => declare(own, s, v, &seen, ends),
-    }
+    device_by(
+        own,
+        s,
+        at,
+        fields::known_fields(Owner::Device, s, at, ends),
+        ends,
+    )
 }
 
-// What a text of a length, in UTF-8, declares, if it is valid. The table is lent.
+// A text that is no JSON of at most 8,192 bytes and 16 levels.
+fn not_json(s: &[u8]) -> Description
+    ensures { λ r. ⌜ r .told ≡ At (faultPlace (now (s .entry))) 21 ⌝ }
+{
+    refused(Told::At(json_fault::place(s), NOT_JSON))
+}
+
+// What a text of at most 8,192 bytes, in UTF-8, declares. The table is lent.
 fn describe_by(own: &[u8], s: &[u8], ends: &mut [u16]) -> Description
-    ensures { λ r. ⌜ meaning (now (s .entry)) r ≡ require (holds (textRules (now (own .entry)) (now (s .entry)))) 15 (gives (describedIn (now (s .entry)) (ws (now (s .entry)) 0))) ⌝ }
+    ensures { λ r. ⌜ (length (now (s .entry)) ≤ 8192 → isUtf8 (now (s .entry)) ≡ true → meaning (now (s .entry)) r ≡ describe (now (own .entry)) (now (s .entry))) ⌝ }
 {
     match json::mark(s, ends) {
-        Scan::Bad(_) => refused(),
+        Scan::Bad(_) => not_json(s),
         Scan::End(_) => device_at(own, s, json::skip(s, 0), ends),
     }
 }
 
-// What the description `s` of the device `own` declares, if it is valid.
+// What the description `s` of the device `own` declares, or what is told of its faults.
 pub fn describe(own: &[u8], s: &[u8]) -> Description
     ensures { λ r. ⌜ meaning (now (s .entry)) r ≡ describe (now (own .entry)) (now (s .entry)) ⌝ }
 {
-    if s.len() > 8192 {
-        return refused();
+    if s.len() > MOST {
+        return not_json(s);
     }
     if !text::is_utf8(s) {
-        return refused();
+        return not_json(s);
     }
     if s.len() > 2048 {
-        let mut ends = [1u16; 8192];
+        let mut ends = [1u16; MOST];
         return describe_by(own, s, &mut ends);
     }
     let mut ends = [1u16; 2048];
     describe_by(own, s, &mut ends)
 }
 
-// Whether `s` is a valid description of the device `own`.
-pub fn judge(own: &[u8], s: &[u8]) -> Verdict
-    ensures { λ r. ⌜ verdict r ≡ require (holds (rules (now (own .entry)) (now (s .entry)))) 15 (gives tt) ⌝ }
+// What is told of the description `s` of the device `own`.
+pub fn judge(own: &[u8], s: &[u8]) -> Told
+    ensures { λ r. ⌜ r ≡ told (now (own .entry)) (now (s .entry)) ⌝ }
 {
     let d = describe(own, s);
-    let taken = d.taken;
-    if taken {
-        return Verdict::Taken;
-    }
-    Verdict::Refused(15)
+    let t = d.told;
+    t
 }

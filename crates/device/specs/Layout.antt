@@ -2,6 +2,7 @@
 use Prim.Native.Nat.{ℕ, _+_, _*_}
 use Rattle.payload.specs.Formats as formats
 use Rattle.payload.specs.Payloads as payloads
+use Rattle.properties.specs.Entries as declared
 
 -- the head: the ID (a length byte, then at most `idMost` bytes), the state's number, its time (8 bytes, the lowest first)
 abbrev pub idAt : ℕ
@@ -36,7 +37,7 @@ countAt = 478
 
 -- "At most 24 properties in all."
 abbrev pub propertiesMost : ℕ
-propertiesMost = 24
+propertiesMost = declared.propertiesMost
 
 abbrev pub recordsAt : ℕ
 recordsAt = 512

@@ -34,7 +34,7 @@ pub const VERSION: usize = 470;
 
 pub const COUNT: usize = 478;
 
-pub const PROPERTIES_MOST: u8 = 24;
+pub const PROPERTIES_MOST: u8 = properties::MOST as u8;
 
 pub const RECORDS: usize = 512;
 

@@ -1,8 +1,8 @@
 pub mod Walk
 pub mod Values
+pub mod Rules
 pub mod Numbers
 pub mod Fields
-pub mod Rules
-pub mod Names
 pub mod Plain
+pub mod Names
 pub mod Theorems

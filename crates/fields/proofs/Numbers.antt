@@ -1,22 +1,27 @@
 -- The numbers of names, and what is noted of a known field.
-use Prim.Native.Nat.{ℕ, zero, suc, _+_, _≤_, _<_}
+use Prim.Native.Nat.{ℕ, zero, suc, _≤_, _<_}
 use native.Mathlib.Omega.{arith}
-use mathlib.Core.Path.{_≡_, refl, sym, ap, _∙_, subst}
+use mathlib.Core.Path.{_≡_, refl, sym, ap, _∙_}
 use mathlib.Core.List.{List, [], _∷_}
-use mathlib.Core.Bool.{Bool, true, false, _&&_, cond, true≢false, false≢true}
+use mathlib.Core.Bool.{Bool, true, false, not, _&&_, _||_, true≢false, false≢true, or-false, or-true}
 use lib.ListN.{length, getD, set, replicate, length-set}
 use lib.Seq.{getD-set-same, getD-set-other}
-use lib.Dec.{eqb, leb}
-use borrow.Author.Tests.{eq-eqb, ne-eqb, eqb-true, le-leb, lt-leb}
-use Rattle.text.specs.Ascii.{ascii}
+use lib.Dec.{eqb, leb, lit<}
+use borrow.Author.Tests.{eq-eqb, ne-eqb, eqb-true, leb-true}
 use Rattle.text.specs.Bytes.{eqBytes}
-use Rattle.text.proofs.Bytes.{both, and-both, eqBytes-true, eqBytes-refl, at-most}
+use Rattle.fields.proofs.Rules.{or-as}
+use Rattle.text.proofs.Bytes.{both, and-both, eqBytes-true, at-most}
+use Rattle.faults.specs.declared.Told.the-variants.{Nothing, At}
+use Rattle.faults.specs.Faults.{earlier, least, _otherwise_}
+use Rattle.fields.specs.declared.Owner.{Owner}
+use Rattle.fields.specs.declared.Owner.the-variants.{Device, Node, Property}
 use Rattle.fields.specs.declared.Field.{Field}
-use Rattle.fields.specs.declared.Field.the-variants.{Absent, One, Twice}
+use Rattle.fields.specs.declared.Field.the-variants.{Absent, First}
 use Rattle.fields.specs.Values.{isPlain}
 use Rattle.fields.specs.Fields.{oneMore}
+use Rattle.fields.specs.Names.{knownNames, isOneOf, isKnown}
 use Rattle.fields.specs.Known.{knownName, fieldFrom, fieldAt}
-use Rattle.fields.specs.Parts.{Numbered, search, names4, names5, names6, names7, names8, names10, namesOf, numberOf, Classified, seenMore, Saw}
+use Rattle.fields.specs.Parts.{Numbered, search, names4, names5, names6, names7, names8, names10, namesOf, numberOf, Classified, isKnownNumber, seenFaults, seenMore, Saw}
 
 -- ---- a test of all numbers below a bound
 
@@ -61,14 +66,34 @@ no-length t a b c d e f = sym (rw (ne-eqb (length t) 4 a, ne-eqb (length t) 5 b,
 -- each name of a list has its number
 right : List Numbered → Bool
 right [] = true
-right (x ∷ xs) = eqBytes (knownName (x .number)) (x .name) && right xs
+right (x ∷ xs) = (leb (x .number) 15 && eqBytes (knownName (x .number)) (x .name)) && right xs
+
+module _ (x : Numbered) (xs : List Numbered) (h : right (x ∷ xs) ≡ true) where
+  right-low : x .number < 16
+  unfolding right
+  right-low = let q = and-both (leb (x .number) 15 && eqBytes (knownName (x .number)) (x .name)) (right xs) h in let l = leb-true (x .number) 15 (and-both (leb (x .number) 15) (eqBytes (knownName (x .number)) (x .name)) (q .0) .0) in omega arith
+
+  right-name : eqBytes (knownName (x .number)) (x .name) ≡ true
+  unfolding right
+  right-name = let q = and-both (leb (x .number) 15 && eqBytes (knownName (x .number)) (x .name)) (right xs) h in and-both (leb (x .number) 15) (eqBytes (knownName (x .number)) (x .name)) (q .0) .1
+
+  right-rest : right xs ≡ true
+  unfolding right
+  right-rest = and-both (leb (x .number) 15 && eqBytes (knownName (x .number)) (x .name)) (right xs) h .1
+
+search-low : (xs : List Numbered) (t : List ℕ) → right xs ≡ true → search xs t < 16
+unfolding search
+search-low [] t h = omega arith
+search-low (x ∷ xs) t h = both (eqBytes t (x .name))
+    (λ e. rw (e, search) (right-low x xs h))
+    (λ e. rw (e, search) (search-low xs t (right-rest x xs h)))
 
 search-right : (xs : List Numbered) (t : List ℕ) → right xs ≡ true → search xs t < 15 → eqBytes t (knownName (search xs t)) ≡ true
-unfolding search right
+unfolding search
 search-right [] t h l = absurd (omega arith)
-search-right (x ∷ xs) t h l = let q = and-both (eqBytes (knownName (x .number)) (x .name)) (right xs) h in both (eqBytes t (x .name))
-    (λ e. rw (e, search) (rw (eqBytes-true (knownName (x .number)) (x .name) (q .0)) e))
-    (λ e. rw (e, search) (search-right xs t (q .1) (rw (e, search) at l)))
+search-right (x ∷ xs) t h l = both (eqBytes t (x .name))
+    (λ e. rw (e, search) (rw (eqBytes-true (knownName (x .number)) (x .name) (right-name x xs h)) e))
+    (λ e. rw (e, search) (search-right xs t (right-rest x xs h) (rw (e, search) at l)))
 
 names-right : (n : ℕ) → right (namesOf n) ≡ true
 unfolding namesOf right names4 names5 names6 names7 names8 names10 knownName eqBytes
@@ -95,23 +120,98 @@ module _ (t : List ℕ) where
   unfolding numberOf
   known-right h = search-right (namesOf (length t)) t (names-right (length t)) h
 
-  names-of : (c : ℕ) → (c < 15 → c ≡ numberOf t) → (numberOf t < 15 → c ≡ numberOf t) → (j : ℕ) → j < 15 → eqBytes t (knownName j) ≡ eqb j c
-  names-of c f g j h = both (eqBytes t (knownName j))
-      (λ e. let q : numberOf t ≡ j = ap numberOf (eqBytes-true t (knownName j) e) ∙ known-number j h in e ∙ sym (eq-eqb j c (sym (g (omega arith) ∙ q))))
-      (λ e. e ∙ sym (ne-eqb j c (λ q. let z : c ≡ numberOf t = f (omega arith) in let y : numberOf t ≡ j = omega arith in
+  names-of : (c : ℕ) → c ≡ numberOf t → (j : ℕ) → j < 15 → eqBytes t (knownName j) ≡ eqb j c
+  names-of c p j h = both (eqBytes t (knownName j))
+      (λ e. let q : numberOf t ≡ j = ap numberOf (eqBytes-true t (knownName j) e) ∙ known-number j h in e ∙ sym (eq-eqb j c (sym (p ∙ q))))
+      (λ e. e ∙ sym (ne-eqb j c (λ q. let y : numberOf t ≡ j = omega arith in
       false≢true (sym e ∙ sym (ap (λ (k : ℕ). eqBytes t (knownName k)) y) ∙ known-right (omega arith)))))
 
-  pub class-known : {c : ℕ} → c ≡ numberOf t → c < 15 → Classified t c
-  class-known {c} p h = record {
-    plain = le-leb c 15 (omega arith) ∙ sym (ap isPlain (eqBytes-true t (knownName (numberOf t)) (known-right (omega arith))) ∙ known-plain (numberOf t) (omega arith));
-    names = names-of c (λ k. p) (λ k. p);
-  }
+  pub classified : {c : ℕ} → c ≡ numberOf t → Classified t c
+  unfolding numberOf
+  classified {c} p = record { low = rw p (search-low (namesOf (length t)) t (names-right (length t))); names = names-of c p }
 
-  pub class-other : {c : ℕ} {b : Bool} → c ≡ numberOf t → 15 ≤ c → b ≡ isPlain t → b ≡ true → Classified t 15
-  class-other p h q e = record { plain = sym (sym q ∙ e); names = names-of 15 (λ k. absurd (omega arith)) (λ k. absurd (omega arith)) }
+-- ---- known fields by their numbers
 
-  pub class-escaped : {c : ℕ} {b : Bool} → c ≡ numberOf t → 15 ≤ c → b ≡ isPlain t → b ≡ false → Classified t 16
-  class-escaped p h q e = record { plain = sym (sym q ∙ e); names = names-of 16 (λ k. absurd (omega arith)) (λ k. absurd (omega arith)) }
+eqb-comm : (a b : ℕ) → eqb a b ≡ eqb b a
+eqb-comm a b = both (eqb a b)
+    (λ e. e ∙ sym (eq-eqb b a (sym (eqb-true a b e))))
+    (λ e. e ∙ sym (ne-eqb b a (λ q. true≢false (sym (eq-eqb a b (sym q)) ∙ e))))
+
+module _ {t : List ℕ} {c : ℕ} (y : Classified t c) where
+  one-more : (j : ℕ) → j < 15 → (names : List (List ℕ)) {b : Bool} → isOneOf t names ≡ b → isOneOf t (knownName j ∷ names) ≡ (eqb c j || b)
+  unfolding isOneOf
+  one-more j h names x = both (eqb c j)
+      (λ e. rw (e, y .names j h ∙ eqb-comm j c ∙ e, isOneOf))
+      (λ e. rw (e, y .names j h ∙ eqb-comm j c ∙ e, isOneOf) x)
+
+  one-last : (j : ℕ) → j < 15 → isOneOf t (knownName j ∷ []) ≡ eqb c j
+  unfolding isOneOf
+  one-last j h = one-more j h [] refl ∙ or-false (eqb c j)
+
+  pub known-is : (owner : Owner) → isKnown owner t ≡ isKnownNumber owner c
+  unfolding isKnown knownNames isKnownNumber knownName
+  known-is Device = one-more 4 (lit< tt) _ (one-more 8 (lit< tt) _ (one-more 5 (lit< tt) _ (one-more 0 (lit< tt) _ (one-more 1 (lit< tt) _ (one-more 12 (lit< tt) _ (one-more 3 (lit< tt) _ (one-more 6 (lit< tt) _ (one-last 14 (lit< tt)))))))))
+  known-is Node = one-more 0 (lit< tt) _ (one-more 1 (lit< tt) _ (one-last 13 (lit< tt)))
+  known-is Property = one-more 9 (lit< tt) _ (one-more 0 (lit< tt) _ (one-more 2 (lit< tt) _ (one-more 7 (lit< tt) _ (one-more 10 (lit< tt) _ (one-last 11 (lit< tt))))))
+
+  -- 15 is no known one's
+  pub other-unknown : (owner : Owner) → 15 ≤ c → isKnown owner t ≡ false
+  unfolding isKnownNumber
+  other-unknown owner h = known-is owner ∙ let l = y .low in let e : c ≡ 15 = omega arith in rw e (go owner)
+    where
+      go : (owner : Owner) → isKnownNumber owner 15 ≡ false
+      go Device = refl
+      go Node = refl
+      go Property = refl
+
+  pub known-name : c < 15 → t ≡ knownName c
+  known-name h = eqBytes-true t (knownName c) (y .names c h ∙ eq-eqb c c refl)
+
+  pub name-plain : c < 15 → isPlain t ≡ true
+  name-plain h = ap isPlain (known-name h) ∙ known-plain c h
+
+-- the tests of an owner's numbers, from the last one on
+
+module _ (c : ℕ) where
+  pub device-field : {r1 r2 r3 r4 r5 r6 r7 r8 : Bool} → r1 ≡ (eqb c 6 || eqb c 14) → r2 ≡ (eqb c 3 || r1) → r3 ≡ (eqb c 12 || r2) → r4 ≡ (eqb c 1 || r3) → r5 ≡ (eqb c 0 || r4) → r6 ≡ (eqb c 5 || r5) → r7 ≡ (eqb c 8 || r6) → r8 ≡ (eqb c 4 || r7) → r8 ≡ isKnownNumber Device c
+  unfolding isKnownNumber
+  device-field p1 p2 p3 p4 p5 p6 p7 p8 = or-as (eqb c 4) p8 (or-as (eqb c 8) p7 (or-as (eqb c 5) p6 (or-as (eqb c 0) p5 (or-as (eqb c 1) p4 (or-as (eqb c 12) p3 (or-as (eqb c 3) p2 p1))))))
+
+  pub node-field : {r1 r2 : Bool} → r1 ≡ (eqb c 1 || eqb c 13) → r2 ≡ (eqb c 0 || r1) → r2 ≡ isKnownNumber Node c
+  unfolding isKnownNumber
+  node-field p1 p2 = or-as (eqb c 0) p2 p1
+
+  pub property-field : {r1 r2 r3 r4 r5 : Bool} → r1 ≡ (eqb c 10 || eqb c 11) → r2 ≡ (eqb c 7 || r1) → r3 ≡ (eqb c 2 || r2) → r4 ≡ (eqb c 0 || r3) → r5 ≡ (eqb c 9 || r4) → r5 ≡ isKnownNumber Property c
+  unfolding isKnownNumber
+  property-field p1 p2 p3 p4 p5 = or-as (eqb c 9) p5 (or-as (eqb c 0) p4 (or-as (eqb c 2) p3 (or-as (eqb c 7) p2 p1)))
+
+pub of-owner : {owner : Owner} (o : Owner) (c : ℕ) {r : Bool} → owner ≡ o → r ≡ isKnownNumber o c → r ≡ isKnownNumber owner c
+of-owner o c q x = x ∙ ap (λ (z : Owner). isKnownNumber z c) (sym q)
+
+-- ---- what is told of a name
+
+module _ (owner : Owner) (t : List ℕ) (first i : ℕ) where
+  seen-none : isPlain t ≡ true → (not (isKnown owner t) || eqb first 0) ≡ true → Nothing ≡ least (seenFaults owner t first i)
+  unfolding seenFaults _otherwise_ least
+  seen-none p q = rw (p, q)
+
+  module _ {c : ℕ} (y : Classified t c) where
+    pub name-unknown : {b : Bool} → 15 ≤ c → b ≡ isPlain t → b ≡ true → Nothing ≡ least (seenFaults owner t first i)
+    name-unknown h p e = seen-none (sym p ∙ e) (rw (other-unknown y owner h))
+
+    pub name-escaped : {b : Bool} → 15 ≤ c → b ≡ isPlain t → b ≡ false → At i 25 ≡ least (seenFaults owner t first i)
+    unfolding seenFaults _otherwise_ least earlier
+    name-escaped h p e = rw (sym p ∙ e, other-unknown y owner h)
+
+    pub name-first : c < 15 → first ≡ 0 → Nothing ≡ least (seenFaults owner t first i)
+    name-first h e = seen-none (name-plain y h) (rw (eq-eqb first 0 e) (or-true (not (isKnown owner t))))
+
+    pub name-repeated : {b : Bool} → c < 15 → (first ≡ 0 → ⊥) → b ≡ isKnownNumber owner c → b ≡ true → At i 24 ≡ least (seenFaults owner t first i)
+    unfolding seenFaults _otherwise_ least earlier
+    name-repeated h n p e = rw (name-plain y h, known-is y owner ∙ sym p ∙ e, ne-eqb first 0 n)
+
+    pub name-other : {b : Bool} → c < 15 → b ≡ isKnownNumber owner c → b ≡ false → Nothing ≡ least (seenFaults owner t first i)
+    name-other h p e = seen-none (name-plain y h) (rw (known-is y owner ∙ sym p ∙ e))
 
 -- ---- what is noted
 
@@ -120,74 +220,51 @@ zeros zero c = refl
 zeros (suc n) zero = refl
 zeros (suc n) (suc c) = zeros n c
 
-pub from-none : (first second : ℕ) → first ≡ 0 → fieldFrom first second ≡ Absent
+pub from-none : (first : ℕ) → first ≡ 0 → fieldFrom first ≡ Absent
 unfolding fieldFrom
-from-none first second e = rw (eq-eqb first 0 e, fieldFrom)
+from-none first e = rw (eq-eqb first 0 e, fieldFrom)
 
-pub from-one : (first second : ℕ) → (first ≡ 0 → ⊥) → second ≡ 0 → fieldFrom first second ≡ One first
+pub from-some : (first : ℕ) → (first ≡ 0 → ⊥) → fieldFrom first ≡ First first
 unfolding fieldFrom
-from-one first second n e = rw (ne-eqb first 0 n, fieldFrom) (rw (eq-eqb second 0 e))
-
-pub from-two : (first second : ℕ) → (first ≡ 0 → ⊥) → (second ≡ 0 → ⊥) → fieldFrom first second ≡ Twice
-unfolding fieldFrom
-from-two first second n e = rw (ne-eqb first 0 n, fieldFrom) (rw (ne-eqb second 0 e))
+from-some first n = rw (ne-eqb first 0 n, fieldFrom)
 
 module _ (m : List ℕ) (c : ℕ) where
   pub at-none : getD m c 0 ≡ 0 → Absent ≡ fieldAt m c
   unfolding fieldAt
-  at-none e = sym (from-none (getD m c 0) (getD m (16 + c) 0) e)
+  at-none e = sym (from-none (getD m c 0) e)
 
-  pub at-one : (getD m c 0 ≡ 0 → ⊥) → getD m (16 + c) 0 ≡ 0 → One (getD m c 0) ≡ fieldAt m c
+  pub at-some : (getD m c 0 ≡ 0 → ⊥) → First (getD m c 0) ≡ fieldAt m c
   unfolding fieldAt
-  at-one n e = sym (from-one (getD m c 0) (getD m (16 + c) 0) n e)
+  at-some n = sym (from-some (getD m c 0) n)
 
-  pub at-two : (getD m c 0 ≡ 0 → ⊥) → (getD m (16 + c) 0 ≡ 0 → ⊥) → Twice ≡ fieldAt m c
-  unfolding fieldAt
-  at-two n e = sym (from-two (getD m c 0) (getD m (16 + c) 0) n e)
-
-  module _ (i k : ℕ) (h : c < 16) (l : length m ≡ 32) where
+  module _ (k : ℕ) (h : c < 16) (l : length m ≡ 16) where
     -- others are as they were
-    same-at : (m′ : List ℕ) (j : ℕ) → getD m′ j 0 ≡ getD m j 0 → getD m′ (16 + j) 0 ≡ getD m (16 + j) 0 → fieldAt m′ j ≡ fieldAt m j
+    same-at : (m′ : List ℕ) (j : ℕ) → getD m′ j 0 ≡ getD m j 0 → fieldAt m′ j ≡ fieldAt m j
     unfolding fieldAt
-    same-at m′ j e f = rw (e, f)
+    same-at m′ j e = rw e
 
-    at-one-of : (m′ : List ℕ) → getD m′ c 0 ≡ k → getD m′ (16 + c) 0 ≡ 0 → 0 < k → One k ≡ fieldAt m′ c
+    at-of : (m′ : List ℕ) → getD m′ c 0 ≡ k → 0 < k → First k ≡ fieldAt m′ c
     unfolding fieldAt
-    at-one-of m′ e f p = sym (rw (e, f) (from-one k 0 (λ x. absurd (omega arith)) refl))
+    at-of m′ e p = sym (rw e (from-some k (λ x. absurd (omega arith))))
 
-    at-two-of : (m′ : List ℕ) → (getD m c 0 ≡ 0 → ⊥) → getD m′ c 0 ≡ getD m c 0 → getD m′ (16 + c) 0 ≡ i → 0 < i → Twice ≡ fieldAt m′ c
-    unfolding fieldAt
-    at-two-of m′ z e f p = sym (rw (e, f) (from-two (getD m c 0) i z (λ x. absurd (omega arith))))
-
-    more-twice : (getD m c 0 ≡ 0 → ⊥) → oneMore (fieldAt m c) k ≡ Twice
-    unfolding fieldAt oneMore
-    more-twice z = both (eqb (getD m (16 + c) 0) 0)
-        (λ e. rw (from-one (getD m c 0) (getD m (16 + c) 0) z (eqb-true (getD m (16 + c) 0) 0 e)))
-        (λ e. rw (from-two (getD m c 0) (getD m (16 + c) 0) z (λ q. true≢false (sym (eq-eqb (getD m (16 + c) 0) 0 q) ∙ e))))
-
-    -- by whether the number is this one
-    saw : (m′ : List ℕ) → length m′ ≡ length m → (0 < i → 0 < k → fieldAt m′ c ≡ oneMore (fieldAt m c) k) → ((j : ℕ) → j < 16 → (j ≡ c → ⊥) → fieldAt m′ j ≡ fieldAt m j) → Saw c i k m m′
-    unfolding seenMore
-    saw m′ n f g = record {
-      long = n;
-      more = λ hi hk j hj. both (eqb j c)
-          (λ e. rw (e, eqb-true j c e) (f hi hk))
-          (λ e. rw e (g j hj (λ q. true≢false (sym (eq-eqb j c q) ∙ e))));
+    pub saw-first : getD m c 0 ≡ 0 → Saw c k m (set m c k)
+    unfolding seenMore oneMore
+    saw-first z = record {
+      long = length-set m c k;
+      more = λ hk j hj. both (eqb j c)
+          (λ e. rw (e, eqb-true j c e) (sym (at-of (set m c k) (getD-set-same m c k 0 (omega arith)) hk) ∙ ap (λ (f : Field). oneMore f k) (at-none z)))
+          (λ e. rw e (same-at (set m c k) j (getD-set-other m c j k 0 (λ q. true≢false (sym (eq-eqb j c q) ∙ e)))));
+      below = λ n hk f j. both (eqb j c)
+          (λ e. rw (eqb-true j c e, getD-set-same m c k 0 (omega arith)) hk)
+          (λ e. rw (getD-set-other m c j k 0 (λ q. true≢false (sym (eq-eqb j c q) ∙ e))) (f j));
     }
 
-    pub saw-first : getD m c 0 ≡ 0 → Saw c i k m (set (set m c k) (16 + c) 0)
-    unfolding oneMore
-    saw-first z =
-        let m′ = set (set m c k) (16 + c) 0 in
-        saw m′ (length-set (set m c k) (16 + c) 0 ∙ length-set m c k)
-        (λ hi hk. sym (at-one-of m′ (getD-set-other (set m c k) (16 + c) c 0 0 (λ x. absurd (omega arith)) ∙ getD-set-same m c k 0 (omega arith)) (getD-set-same (set m c k) (16 + c) 0 0 (rw (length-set m c k) (omega arith))) hk) ∙ ap (λ (f : Field). oneMore f k) (at-none z))
-        (λ j hj n. same-at m′ j
-        (getD-set-other (set m c k) (16 + c) j 0 0 (λ x. absurd (omega arith)) ∙ getD-set-other m c j k 0 n)
-        (getD-set-other (set m c k) (16 + c) (16 + j) 0 0 (λ x. n (omega arith)) ∙ getD-set-other m c (16 + j) k 0 (λ x. absurd (omega arith))))
-
-    pub saw-again : (getD m c 0 ≡ 0 → ⊥) → Saw c i k m (set m (16 + c) i)
-    saw-again z =
-        let m′ = set m (16 + c) i in
-        saw m′ (length-set m (16 + c) i)
-        (λ hi hk. sym (at-two-of m′ z (getD-set-other m (16 + c) c i 0 (λ x. absurd (omega arith))) (getD-set-same m (16 + c) i 0 (omega arith)) hi) ∙ sym (more-twice z))
-        (λ j hj n. same-at m′ j (getD-set-other m (16 + c) j i 0 (λ x. absurd (omega arith))) (getD-set-other m (16 + c) (16 + j) i 0 (λ x. n (omega arith))))
+    pub saw-again : (getD m c 0 ≡ 0 → ⊥) → Saw c k m m
+    unfolding seenMore oneMore
+    saw-again z = record {
+      long = refl;
+      more = λ hk j hj. both (eqb j c)
+          (λ e. rw (e, eqb-true j c e) (sym (at-some z) ∙ ap (λ (f : Field). oneMore f k) (at-some z)))
+          (λ e. rw e);
+      below = λ n hk f. f;
+    }

@@ -1,19 +1,21 @@
 -- What this crate promises beyond its contracts.
 use Prim.Native.Nat.{ℕ}
 use mathlib.Core.Path.{_≡_}
-use mathlib.Core.List.{List}
-use mathlib.Core.Bool.{true, not}
+use mathlib.Core.List.{List, []}
+use mathlib.Core.Bool.{true}
 use Rattle.text.specs.Ids.{isId}
-use Rattle.fields.specs.Values.{members, nameOf, all, isPlain}
-use Rattle.fields.specs.Fields.{field, isTwice}
-use Rattle.fields.specs.Names.{Unlike}
+use Rattle.json.specs.Members.{Member}
+use Rattle.faults.specs.Faults.{Fault}
+use Rattle.fields.specs.Values.{members, isPlain}
+use Rattle.fields.specs.Fields.{among, entryFaults}
 use Rattle.fields.proofs.Names as names
+use Rattle.fields.proofs.Names.{Unlike}
 use Rattle.fields.proofs.Plain as plain
 
 -- Paper 01, "The description": "no backslash in .. `root`, `parent`, .. or an ID in `children`": an ID has none
 pub id-plain : (t : List ℕ) → isId t ≡ true → isPlain t ≡ true
 id-plain = plain.id-plain
 
--- "no ID twice in its object": where each member's name stands once, no two members have the same name
-pub once : (s : List ℕ) (at : ℕ) → all (λ m. not (isTwice (field s at (nameOf s m)))) (members s at) ≡ true → Unlike s (members s at)
-once = names.unlike
+-- Paper 02, K1: "a known field or ID repeated": where the entries of an object by ID have no fault, no two have the same name
+pub once : (s : List ℕ) (at : ℕ) (value : Member → List Fault) → among (λ m. entryFaults s at (value m) m) (members s at) ≡ [] → Unlike s (members s at)
+once s at value h = names.unlike s at (names.firsts s at value (members s at) h)

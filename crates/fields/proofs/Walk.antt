@@ -1,11 +1,9 @@
 -- Walking through an object's members or an array's elements, one step a turn.
-use Prim.Native.Nat.{ℕ, zero, suc, _+_, _-_, _≤_, _<_}
+use Prim.Native.Nat.{ℕ, _+_, _-_, _≤_, _<_}
 use native.Mathlib.Omega.{arith}
-use mathlib.Core.Path.{_≡_, refl, sym, ap, _∙_, subst}
+use mathlib.Core.Path.{_≡_, sym, ap, _∙_, subst}
 use mathlib.Core.List.{List, [], _∷_}
-use mathlib.Core.Bool.{Bool, true, false}
 use lib.ListN.{length}
-use lib.Dec.{eqb}
 use borrow.Author.Tests.{ne-eqb, eq-eqb}
 use Rattle.json.specs.Bytes.{byte, ws}
 use Rattle.json.specs.Members.{Member, memberAt, elementAt, listFrom, ItemLies, GotItem}
@@ -15,7 +13,12 @@ use Rattle.json.specs.declared.Scan.{Scan}
 use Rattle.json.proofs.Members.{Going, walk, walked, walk-members, walk-elements}
 use Rattle.json.specs.declared.Item.{Item}
 use Rattle.json.specs.declared.Item.the-variants.{At, Done}
-use Rattle.fields.specs.Values.{isObject, isArray, members, elements, all}
+use Rattle.faults.specs.declared.Told.{Told}
+use Rattle.faults.specs.declared.Told.the-variants.{Nothing}
+use Rattle.faults.specs.Faults.{Fault, earlier, least}
+use Rattle.faults.proofs.Laws.{earlier-none, earlier-assoc, least-join}
+use Rattle.fields.specs.Values.{isObject, isArray, members, elements}
+use Rattle.fields.specs.Fields.{among}
 
 -- f of all the items is f of those from i on, which lies in the text
 pub record Walking {X : Type 0} (step : ℕ → Item) (f : List Member → X) (len i : ℕ) (want : X) : Type 0 where
@@ -68,18 +71,32 @@ module _ {X : Type 0} (f : List Member → X) (s : List ℕ) (at : ℕ) {b : ℕ
   unfolding elements isArray
   first-element {i} e q h = record { within = h; going = rw (eq-eqb (byte s at) 91 (sym p ∙ e), elements) (walk-elements f s at i q) }
 
--- ---- every item passes a test
+-- ---- what is told of the items
 
-module _ (step : ℕ → Item) (test : Member → Bool) (len i : ℕ) {want : Bool} (g : Walking step (all test) len i want) where
-  pub all-done : step i ≡ Done → true ≡ want
-  unfolding all
-  all-done q = at-done step (all test) len i g q
+-- what was told before i, with what is told of the items from i on, is what is told of all
+abbrev pub Telling : (ℕ → Item) → (Member → List Fault) → ℕ → Told → ℕ → Told → Type 0
+Telling step f len told i want = Walking step (λ ms. earlier told (least (among f ms))) len i want
 
-  module _ {k e n : ℕ} (w : GotItem (step i) i len (At k e n)) {b : Bool} (p : b ≡ test (record { name = i; value = k; end = e })) where
-    pub all-no : b ≡ false → false ≡ want
-    unfolding all
-    all-no x = let t = at-item step (all test) len i g w in sym (rw (sym p ∙ x, all)) ∙ t .going .same
+module _ (step : ℕ → Item) (f : Member → List Fault) (len : ℕ) (told : Told) (i : ℕ) {want : Told} (g : Telling step f len told i want) where
+  pub tell-done : step i ≡ Done → told ≡ want
+  unfolding among least
+  tell-done q = sym (earlier-none told) ∙ at-done step (λ ms. earlier told (least (among f ms))) len i g q
 
-    pub all-yes : b ≡ true → Walking step (all test) len n want
-    unfolding all
-    all-yes x = walking-as (all test) (λ ms. sym (rw (sym p ∙ x, all))) (at-item step (all test) len i g w)
+  pub tell-item : {k e n : ℕ} → GotItem (step i) i len (At k e n) → {r told′ : Told} → told′ ≡ earlier told r → r ≡ least (f (record { name = i; value = k; end = e })) → Telling step f len told′ n want
+  unfolding among
+  tell-item {k} {e} {n} w {r} {told′} p q = walking-as (λ ms. earlier told′ (least (among f ms)))
+      (λ ms. rw (p, q) (earlier-assoc told (least (f (record { name = i; value = k; end = e }))) (least (among f ms)) ∙ ap (earlier told) (sym (least-join (f (record { name = i; value = k; end = e })) (among f ms)))))
+      (at-item step (λ ms. earlier told (least (among f ms))) len i g w)
+
+module _ (f : Member → List Fault) (s : List ℕ) (at : ℕ) {b : ℕ} (p : b ≡ byte s at) where
+  pub tell-no-members : (b ≡ 123 → ⊥) → Nothing ≡ least (among f (members s at))
+  unfolding among least
+  tell-no-members n = no-members (λ ms. least (among f ms)) s at p n
+
+  pub tell-members : {i : ℕ} → b ≡ 123 → i ≡ ws s (at + 1) → i ≤ length s → Telling (memberAt s) f (length s) Nothing i (least (among f (members s at)))
+  unfolding earlier
+  tell-members e q h = first-member (λ ms. least (among f ms)) s at p e q h
+
+  pub tell-elements : {i : ℕ} → b ≡ 91 → i ≡ ws s (at + 1) → i ≤ length s → Telling (elementAt s) f (length s) Nothing i (least (among f (elements s at)))
+  unfolding earlier
+  tell-elements e q h = first-element (λ ms. least (among f ms)) s at p e q h

@@ -1,86 +1,125 @@
--- Known fields of an object: each at most once, and of a kind.
-use Prim.Native.Nat.{ℕ}
-use mathlib.Core.List.{List, [], _∷_}
-use mathlib.Core.Bool.{Bool, true, false}
+-- Known fields of an object, each at its first member of that name, and the faults of fields and names (paper 02, K1).
+use Prim.Native.Nat.{ℕ, _-_}
+use mathlib.Core.List.{List, [], _∷_, _++_}
+use mathlib.Core.Bool.{Bool, true, false, not, _||_}
 use mathlib.Core.Option.{Option, none, some}
+use lib.Dec.{eqb}
+use Rattle.json.specs.Value.{valueAt}
 use Rattle.json.specs.Members.{Member}
+use Rattle.json.specs.declared.Scan.the-variants.{End, Bad}
 use Rattle.text.specs.Bytes.{eqBytes}
+use Rattle.text.specs.Ids.{isId}
+use Rattle.faults.specs.Faults.{Fault, wrongKind, repeated, otherRule, _otherwise_}
 use Rattle.fields.specs.declared.Kind.{Kind}
+use Rattle.fields.specs.declared.Kind.the-variants.{Text, Flag, Object, Ids, Texts}
+use Rattle.fields.specs.declared.Owner.{Owner}
 use Rattle.fields.specs.declared.Field.{Field}
-use Rattle.fields.specs.declared.Field.the-variants.{Absent, One, Twice}
-use Rattle.fields.specs.Values.{stringBytes, isTrue, members, nameOf, isPlain, ofKind}
+use Rattle.fields.specs.declared.Field.the-variants.{Absent, First}
+use Rattle.fields.specs.Values.{stringBytes, isStringAt, isObject, isArray, isTrue, isFlag, members, elements, nameOf, isPlain}
+use Rattle.fields.specs.Names.{isKnown}
 
--- no rule is broken
-unfoldable pub holds : List Bool → Bool
-holds [] = true
-holds (r ∷ rs) = elim r [ true ↦ holds rs | false ↦ false ]
+-- ---- fields
 
--- one member more of that name, its value at k
+-- one member more of that name, its value at k: "the other rules go by the first value"
 unfoldable pub oneMore : Field → ℕ → Field
-oneMore Absent k = One k
-oneMore (One j) k = Twice
-oneMore Twice k = Twice
+oneMore Absent k = First k
+oneMore (First j) k = First j
 
--- RFC 8259, 4: an object is "zero or more name/value pairs": a member's name, and the place of its value
-pub record Pair : Type 0 where
-  pub name : List ℕ
-  pub value : ℕ
-
-unfoldable pub pairs : List ℕ → List Member → List Pair
-pairs s [] = []
-pairs s (m ∷ ms) = record { name = nameOf s m; value = m .value } ∷ pairs s ms
-
--- what pairs add to what was seen of a name
-unfoldable pub fieldIn : List ℕ → Field → List Pair → Field
-fieldIn name seen [] = seen
-fieldIn name seen (p ∷ ps) = elim (eqBytes (p .name) name) [
-  | true ↦ fieldIn name (oneMore seen (p .value)) ps
-  | false ↦ fieldIn name seen ps
+-- what members add to what was seen of a name
+unfoldable pub fieldIn : List ℕ → List ℕ → Field → List Member → Field
+fieldIn s name seen [] = seen
+fieldIn s name seen (m ∷ ms) = elim (eqBytes (nameOf s m) name) [
+  | true ↦ fieldIn s name (oneMore seen (m .value)) ms
+  | false ↦ fieldIn s name seen ms
 ]
 
 -- the field of that name in the object at `at`
 unfoldable pub field : List ℕ → ℕ → List ℕ → Field
-field s at name = fieldIn name Absent (pairs s (members s at))
-
--- at most once, and then of that kind
-unfoldable pub optional : Kind → List ℕ → Field → Bool
-optional kind s Absent = true
-optional kind s (One k) = ofKind kind s k
-optional kind s Twice = false
+field s at name = fieldIn s name Absent (members s at)
 
 unfoldable pub isPresent : Field → Bool
 isPresent Absent = false
-isPresent (One k) = true
-isPresent Twice = true
-
-unfoldable pub isTwice : Field → Bool
-isTwice Absent = false
-isTwice (One k) = false
-isTwice Twice = true
+isPresent (First k) = true
 
 -- the string that a field holds
 unfoldable pub textIn : List ℕ → Field → Option (List ℕ)
 textIn s Absent = none
-textIn s (One k) = some (stringBytes s k)
-textIn s Twice = none
+textIn s (First k) = some (stringBytes s k)
 
 -- the boolean that a field holds, with what holds where it is absent
 unfoldable pub flagIn : List ℕ → Bool → Field → Bool
 flagIn s default Absent = default
-flagIn s default (One k) = isTrue s k
-flagIn s default Twice = default
+flagIn s default (First k) = isTrue s k
 
 -- the members of the object that a field holds
 unfoldable pub membersIn : List ℕ → Field → List Member
 membersIn s Absent = []
-membersIn s (One k) = members s k
-membersIn s Twice = []
+membersIn s (First k) = members s k
 
--- no name has a backslash
-unfoldable pub plainIn : List Pair → Bool
-plainIn [] = true
-plainIn (p ∷ ps) = elim (isPlain (p .name)) [ true ↦ plainIn ps | false ↦ false ]
+-- ---- values: "a value .. of the wrong JSON kind (its first byte)"
 
--- no name of the object's members has a backslash
-unfoldable pub plainNames : List ℕ → ℕ → Bool
-plainNames s at = plainIn (pairs s (members s at))
+-- the faults of a value at k that should be of a kind: where it is of another one, nothing else is asked of it
+unfoldable pub ofKind : Bool → ℕ → List Fault → List Fault
+ofKind true k fs = fs
+ofKind false k fs = wrongKind k ∷ []
+
+-- the faults of each, one after another
+unfoldable pub among : (Member → List Fault) → List Member → List Fault
+among f [] = []
+among f (m ∷ ms) = f m ++ among f ms
+
+unfoldable pub stringFaults : List ℕ → ℕ → List Fault
+stringFaults s k = isStringAt s k otherwise wrongKind k
+
+-- a string that is an ID. An ID has no backslash
+unfoldable pub idFaults : List ℕ → ℕ → List Fault
+idFaults s k = ofKind (isStringAt s k) k (isId (stringBytes s k) otherwise otherRule k)
+
+-- an array, and its elements
+unfoldable pub arrayFaults : (List ℕ → ℕ → List Fault) → List ℕ → ℕ → List Fault
+arrayFaults each s k = ofKind (isArray s k) k (among (λ m. each s (m .value)) (elements s k))
+
+-- what a known field may hold: a string, a boolean, an object, an array of IDs, an array of strings. "Null is never allowed in these."
+unfoldable pub kindFaults : Kind → List ℕ → ℕ → List Fault
+kindFaults Text s k = stringFaults s k
+kindFaults Flag s k = isFlag s k otherwise wrongKind k
+kindFaults Object s k = isObject s k otherwise wrongKind k
+kindFaults Ids s k = arrayFaults idFaults s k
+kindFaults Texts s k = arrayFaults stringFaults s k
+
+-- a field that may be absent
+unfoldable pub fieldFaults : Kind → List ℕ → Field → List Fault
+fieldFaults kind s Absent = []
+fieldFaults kind s (First k) = kindFaults kind s k
+
+-- "a required field missing .. (place of the object's closing brace)": the closing brace of the object at `at`
+unfoldable pub closeAt : List ℕ → ℕ → ℕ
+closeAt s at = elim (valueAt 16 s at) [ End e ↦ e - 1 | Bad e ↦ at ]
+
+-- ---- names
+
+-- the field's first value is the one at k
+unfoldable pub isFirst : ℕ → Field → Bool
+isFirst k Absent = false
+isFirst k (First j) = eqb j k
+
+-- a member of the object at `at` is the first of its name
+unfoldable pub comesFirst : List ℕ → ℕ → Member → Bool
+comesFirst s at m = isFirst (m .value) (field s at (nameOf s m))
+
+-- "House rule: no backslash in a field name of these objects"; "a known field .. repeated (the second name ..)", and each later one
+unfoldable pub nameFaultsOf : Owner → List ℕ → ℕ → Member → List Fault
+nameFaultsOf owner s at m =
+    (isPlain (nameOf s m) otherwise otherRule (m .name)) ++
+    ((not (isKnown owner (nameOf s m)) || comesFirst s at m) otherwise repeated (m .name))
+
+-- the field names of the object at `at`
+unfoldable pub nameFaults : Owner → List ℕ → ℕ → List Fault
+nameFaults owner s at = among (nameFaultsOf owner s at) (members s at)
+
+-- "object by ID": a member's name is an ID. "a known field or ID repeated (the second name; the other rules go by the first value)": the value of a
+-- repeated one is not judged; `value` has its faults
+unfoldable pub entryFaults : List ℕ → ℕ → List Fault → Member → List Fault
+entryFaults s at value m =
+    (isId (nameOf s m) otherwise otherRule (m .name)) ++
+    elim (comesFirst s at m) [ true ↦ value | false ↦ repeated (m .name) ∷ [] ]

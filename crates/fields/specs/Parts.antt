@@ -1,21 +1,28 @@
 -- What the contracts of private functions cite.
-use Prim.Native.Nat.{ℕ, _+_, _≤_, _<_}
+use Prim.Native.Nat.{ℕ, _<_}
 use mathlib.Core.Path.{_≡_}
-use mathlib.Core.List.{List, [], _∷_}
-use mathlib.Core.Bool.{Bool, true, false, cond}
-use lib.ListN.{length}
-use lib.Dec.{eqb, leb}
+use mathlib.Core.List.{List, [], _∷_, _++_}
+use mathlib.Core.Bool.{Bool, true, false, not, _||_, cond}
+use lib.ListN.{length, getD}
+use lib.Dec.{eqb}
 use Rattle.text.specs.Ascii.{ascii}
 use Rattle.text.specs.Bytes.{eqBytes}
+use Rattle.faults.specs.Faults.{Fault, repeated, otherRule, _otherwise_}
+use Rattle.fields.specs.declared.Owner.{Owner}
+use Rattle.fields.specs.declared.Owner.the-variants.{Device, Node, Property}
 use Rattle.fields.specs.declared.Field.{Field}
-use Rattle.fields.specs.Values.{isStringAt, isIdText, isPlain}
-use Rattle.fields.specs.Fields.{oneMore}
+use Rattle.fields.specs.Values.{isPlain}
+use Rattle.fields.specs.Fields.{oneMore, stringFaults, idFaults}
+use Rattle.fields.specs.Names.{isKnown}
 use Rattle.fields.specs.Known.{knownName, fieldAt}
 
+abbrev pub fault : (place number : ℕ) → Fault
+fault p n = record { place = p; number = n }
+
 -- an array's element: an ID, or a string
-unfoldable pub itemTest : Bool → List ℕ → ℕ → Bool
-itemTest true s k = isIdText s k
-itemTest false s k = isStringAt s k
+unfoldable pub itemFaults : Bool → List ℕ → ℕ → List Fault
+itemFaults true s k = idFaults s k
+itemFaults false s k = stringFaults s k
 
 -- ---- the number of a name
 
@@ -56,10 +63,23 @@ namesOf n = cond (eqb n 4) names4 (cond (eqb n 5) names5 (cond (eqb n 6) names6 
 unfoldable pub numberOf : List ℕ → ℕ
 numberOf t = search (namesOf (length t)) t
 
--- a name's number is c: a known one's, 15 for another with no backslash, 16 for one with
+-- a name's number is c: a known one's, 15 for another
 pub record Classified (t : List ℕ) (c : ℕ) : Type 0 where
-  pub plain : leb c 15 ≡ isPlain t
+  pub low : c < 16
   pub names : (j : ℕ) → j < 15 → eqBytes t (knownName j) ≡ eqb j c
+
+-- the number is that of a known field of such an object
+unfoldable pub isKnownNumber : Owner → ℕ → Bool
+isKnownNumber Device c =
+    eqb c 4 || (eqb c 8 || (eqb c 5 || (eqb c 0 || (eqb c 1 || (eqb c 12 || (eqb c 3 || (eqb c 6 || eqb c 14)))))))
+isKnownNumber Node c = eqb c 0 || (eqb c 1 || eqb c 13)
+isKnownNumber Property c = eqb c 9 || (eqb c 0 || (eqb c 2 || (eqb c 7 || (eqb c 10 || eqb c 11))))
+
+-- the faults of the name t at i, of which `first` is the place of the first value; 0 for none before it
+unfoldable pub seenFaults : Owner → List ℕ → ℕ → ℕ → List Fault
+seenFaults owner t first i =
+    (isPlain t otherwise otherRule i) ++
+    ((not (isKnown owner t) || eqb first 0) otherwise repeated i)
 
 -- ---- one member more
 
@@ -67,7 +87,8 @@ unfoldable pub seenMore : Bool → Field → ℕ → Field
 seenMore true f k = oneMore f k
 seenMore false f k = f
 
--- of the name number c, at the place i, with its value at k
-pub record Saw (c i k : ℕ) (before after : List ℕ) : Type 0 where
+-- of the name number c, with its value at k
+pub record Saw (c k : ℕ) (before after : List ℕ) : Type 0 where
   pub long : length after ≡ length before
-  pub more : 0 < i → 0 < k → (j : ℕ) → j < 16 → fieldAt after j ≡ seenMore (eqb j c) (fieldAt before j) k
+  pub more : 0 < k → (j : ℕ) → j < 16 → fieldAt after j ≡ seenMore (eqb j c) (fieldAt before j) k
+  pub below : (n : ℕ) → k < n → ((j : ℕ) → getD before j 0 < n) → (j : ℕ) → getD after j 0 < n

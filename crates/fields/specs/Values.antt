@@ -1,17 +1,15 @@
 -- The values of a JSON text by what they hold. The whole text is judged as JSON before, so that a value's first byte tells its kind.
 use Prim.Native.Nat.{ℕ, _+_, _-_}
 use mathlib.Core.List.{List, [], _∷_}
-use mathlib.Core.Bool.{Bool, true, false, not, _&&_, _||_}
+use mathlib.Core.Bool.{Bool, true, false, _||_}
 use lib.Dec.{eqb}
 use Rattle.json.specs.Bytes.{byte}
 use Rattle.json.specs.Strings.{stringAt}
+use Rattle.json.specs.Number.{isDigit}
 use Rattle.json.specs.Value.{valueAt}
 use Rattle.json.specs.Members.{Member, membersAt, elementsAt}
 use Rattle.json.specs.declared.Scan.the-variants.{End, Bad}
 use Rattle.text.specs.Bytes.{slice}
-use Rattle.text.specs.Ids.{isId}
-use Rattle.fields.specs.declared.Kind.{Kind}
-use Rattle.fields.specs.declared.Kind.the-variants.{Text, Flag, Object, Id, Ids, Texts}
 
 -- the bytes of the value at k
 unfoldable pub valueBytes : List ℕ → ℕ → List ℕ
@@ -34,6 +32,10 @@ isArray s k = eqb (byte s k) 91
 unfoldable pub isTrue : List ℕ → ℕ → Bool
 isTrue s k = eqb (byte s k) 116
 
+-- a number begins with a minus or a digit
+unfoldable pub isNumberAt : List ℕ → ℕ → Bool
+isNumberAt s k = eqb (byte s k) 45 || isDigit (byte s k)
+
 -- `true` or `false`
 unfoldable pub isFlag : List ℕ → ℕ → Bool
 isFlag s k = isTrue s k || eqb (byte s k) 102
@@ -48,28 +50,7 @@ elements s k = elim (isArray s k) [ true ↦ elementsAt s k | false ↦ [] ]
 unfoldable pub nameOf : List ℕ → Member → List ℕ
 nameOf s m = stringBytes s (m .name)
 
-unfoldable pub all : (Member → Bool) → List Member → Bool
-all test [] = true
-all test (m ∷ ms) = elim (test m) [ true ↦ all test ms | false ↦ false ]
-
 -- no backslash
 unfoldable pub isPlain : List ℕ → Bool
 isPlain [] = true
 isPlain (b ∷ bs) = elim (eqb b 92) [ true ↦ false | false ↦ isPlain bs ]
-
--- a string that is an ID. An ID has no backslash
-unfoldable pub isIdText : List ℕ → ℕ → Bool
-isIdText s k = isStringAt s k && isId (stringBytes s k)
-
--- an array each of whose elements passes a test
-unfoldable pub arrayOf : (List ℕ → ℕ → Bool) → List ℕ → ℕ → Bool
-arrayOf test s k = isArray s k && all (λ m. test s (m .value)) (elements s k)
-
--- what a known field may hold: a string, a boolean, an object, an ID, an array of IDs, an array of strings. `null` is none of these
-unfoldable pub ofKind : Kind → List ℕ → ℕ → Bool
-ofKind Text s k = isStringAt s k
-ofKind Flag s k = isFlag s k
-ofKind Object s k = isObject s k
-ofKind Id s k = isIdText s k
-ofKind Ids s k = arrayOf isIdText s k
-ofKind Texts s k = arrayOf isStringAt s k

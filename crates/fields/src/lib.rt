@@ -1,34 +1,44 @@
-// The values of a JSON text, and the known fields of its objects. Where a function takes a table of ends, as `json::mark` fills it, its answer is
-// right if the table is.
+// The values of a JSON text, and the known fields of its objects: what is told of them, and where they stand. Where a function takes a table of ends, as
+// `json::mark` fills it, its answer is right if the table is.
+use faults::OTHER_RULE;
+use faults::REPEATED;
+use faults::Told;
+use faults::WRONG_KIND;
 use json::Item;
 use json::Scan;
 ghost use mathlib.Core.Path.{_≡_};
-ghost use mathlib.Core.Bool.{not};
-ghost use Prim.Native.Nat.{ℕ, _+_, _≤_, _<_};
+ghost use mathlib.Core.Bool.{_||_};
+ghost use Prim.Native.Nat.{ℕ, _<_};
 ghost use lib.ListN.{length};
-ghost use Rattle.json.specs.Members.{memberAt, listFrom};
+ghost use Rattle.faults.specs.Faults.{earlier, least, otherRule, _otherwise_};
 ghost use Rattle.json.specs.Ends.{Ends};
-ghost use Rattle.fields.specs.Values.{valueBytes, stringBytes, isStringAt, isObject, isTrue, isFlag, isPlain, isIdText, members, nameOf, all, arrayOf, ofKind};
-ghost use Rattle.fields.specs.Parts.{itemTest, search, names4, names5, names6, names7, names8, names10, numberOf, Classified, Saw};
-ghost use Rattle.fields.specs.Fields.{field, optional, isTwice, flagIn};
-ghost use Rattle.fields.specs.Known.{fieldAt, Knows};
-ghost use Rattle.fields.specs.Names.{unnamed};
+ghost use Rattle.text.specs.Ids.{isId};
+ghost use Rattle.fields.specs.declared.Owner.the-variants.{Device, Node, Property};
+ghost use Rattle.fields.specs.Values.{valueBytes, stringBytes, isStringAt, isObject, isTrue, isFlag, isNumberAt, isPlain};
+ghost use Rattle.fields.specs.Parts.{fault, itemFaults, search, names4, names5, names6, names7, names8, names10, numberOf, Classified, isKnownNumber, seenFaults, Saw};
+ghost use Rattle.fields.specs.Fields.{field, isPresent, isFirst, flagIn, stringFaults, idFaults, arrayFaults, kindFaults, fieldFaults, closeAt};
+ghost use Rattle.fields.specs.Known.{fieldAt, Knows, IsMember};
 
 // What a known field may hold.
 pub enum Kind {
     Text,
     Flag,
     Object,
-    Id,
     Ids,
     Texts,
 }
 
-// A name in an object: no member has it, one, with its value's place, or more.
+// What an object describes: its known fields differ.
+pub enum Owner {
+    Device,
+    Node,
+    Property,
+}
+
+// A name in an object: no member has it, or some do, with the place of the first one's value.
 pub enum Field {
     Absent,
-    One(usize),
-    Twice,
+    First(usize),
 }
 
 // The numbers of the known fields.
@@ -62,11 +72,10 @@ pub const PROPERTIES: usize = 13;
 
 pub const EXTENSIONS: usize = 14;
 
-// What an object's members are named, if all names are plain: of the known field c, `seen[c]` is the place of its first value and `seen[16 + c]`
-// that of its second name; 0 where there is none.
+// What is told of an object's names, and of the known field c the place of its first value, `seen[c]`; 0 where there is none.
 pub struct Known {
-    pub plain: bool,
-    pub seen: [usize; 32],
+    pub told: Told,
+    pub seen: [usize; 16],
 }
 
 // The bytes of the value at `k`.
@@ -140,53 +149,71 @@ pub fn is_plain(s: &[u8]) -> bool
     true
 }
 
-// Whether an ID stands at `k`, as a string.
-fn is_id_text(s: &[u8], k: usize, ends: &[u16]) -> bool
-    ensures { λ r. ⌜ (Ends (now (s .entry)) (now (ends .entry)) → r ≡ isIdText (now (s .entry)) k) ⌝ }
+// Whether a number begins at `k`.
+pub fn is_number(s: &[u8], k: usize) -> bool
+    ensures { λ r. ⌜ r ≡ isNumberAt (now (s .entry)) k ⌝ }
 {
-    if is_string(s, k) {
-        return text::is_id(string_bytes_by(s, k, ends));
+    let b = json::peek(s, k);
+    if b == 45 {
+        return true;
     }
-    false
+    if b < 48 {
+        return false;
+    }
+    b <= 57
 }
 
-// Whether no member from the place `i` of an object on has the name.
-fn is_unnamed(s: &[u8], i: usize, name: &[u8], ends: &[u16]) -> bool
-    ensures { λ r. ⌜ (Ends (now (s .entry)) (now (ends .entry)) → (f : ℕ) → i ≤ length (now (s .entry)) → length (now (s .entry)) < i + f → r ≡ unnamed (now (s .entry)) (now (name .entry)) (listFrom (memberAt (now (s .entry))) f i)) ⌝ }
+// Where the object at `at` is closed.
+pub fn close_of(s: &[u8], at: usize, ends: &[u16]) -> usize
+    ensures { λ r. ⌜ (Ends (now (s .entry)) (now (ends .entry)) → r ≡ closeAt (now (s .entry)) at) ⌝ }
 {
-    let mut j = i;
-    loop {
-        match json::member_by(s, j, ends) {
-            Item::Done => return true,
-            Item::At(_, _, n) => {
-                if text::same(string_bytes_by(s, j, ends), name) {
-                    return false;
-                }
-                j = n;
-            }
-        }
+    match json::value_by(s, at, ends) {
+        Scan::Bad(_) => at,
+        Scan::End(e) => e - 1,
     }
 }
 
-// Whether no two members of the object at `at` have the same name.
-pub fn are_different(s: &[u8], at: usize, ends: &[u16]) -> bool
-    ensures { λ r. ⌜ (Ends (now (s .entry)) (now (ends .entry)) → r ≡ all (λ m. not (isTwice (field (now (s .entry)) at (nameOf (now (s .entry)) m)))) (members (now (s .entry)) at)) ⌝ }
+// The first member of the object at `at` with the name of the one whose name is at `own` and whose value is at `value`, by the place of its value.
+fn first_named(s: &[u8], at: usize, own: usize, value: usize, name: &[u8], ends: &[u16]) -> Field
+    ensures { λ r. ⌜ (Ends (now (s .entry)) (now (ends .entry)) → now (name .entry) ≡ stringBytes (now (s .entry)) own → IsMember (now (s .entry)) own value → r ≡ field (now (s .entry)) at (now (name .entry))) ⌝ }
 {
     if json::peek(s, at) != 123 {
-        return true;
+        return Field::Absent;
     }
     let mut i = json::skip(s, at + 1);
     loop {
+        if i == own {
+            return Field::First(value);
+        }
         match json::member_by(s, i, ends) {
-            Item::Done => return true,
-            Item::At(_, _, n) => {
-                if !is_unnamed(s, n, string_bytes_by(s, i, ends), ends) {
-                    return false;
+            Item::Done => return Field::Absent,
+            Item::At(k, _, n) => {
+                if text::same(string_bytes_by(s, i, ends), name) {
+                    return Field::First(k);
                 }
                 i = n;
             }
         }
     }
+}
+
+fn is_first(k: usize, f: Field) -> bool
+    ensures { λ r. ⌜ r ≡ isFirst k f ⌝ }
+{
+    match f {
+        Field::Absent => false,
+        Field::First(j) => j == k,
+    }
+}
+
+// Whether the member whose name is at `i` and whose value is at `k` is the first of its name in the object at `at`.
+pub fn comes_first(s: &[u8], at: usize, i: usize, k: usize, ends: &[u16]) -> bool
+    ensures { λ r. ⌜ (Ends (now (s .entry)) (now (ends .entry)) → IsMember (now (s .entry)) i k → r ≡ isFirst k (field (now (s .entry)) at (stringBytes (now (s .entry)) i))) ⌝ }
+{
+    is_first(
+        k,
+        first_named(s, at, i, k, string_bytes_by(s, i, ends), ends),
+    )
 }
 
 // A name's number among the known ones of its length.
@@ -286,41 +313,120 @@ fn number_of(t: &[u8]) -> usize
     }
 }
 
-// The same; 16 if it has a backslash.
+// The same, with what it says of each known name.
 fn classify(t: &[u8]) -> usize
     ensures { λ r. ⌜ Classified (now (t .entry)) r ⌝ }
 {
-    let c = number_of(t);
-    if c < 15 {
-        return c;
-    }
-    if is_plain(t) {
-        return 15;
-    }
-    16
+    number_of(t)
 }
 
-// One member more of the name with that number: its name is at `i`, its value at `k`.
-fn see(seen: &mut [usize; 32], c: usize, i: usize, k: usize)
-    requires { ⌜ (c < 16) × (length (now seen) ≡ 32) ⌝ }
-    ensures { λ _. ⌜ Saw c i k (now (seen .entry)) (now (seen .exit)) ⌝ }
+fn either(a: bool, b: bool) -> bool
+    ensures { λ r. ⌜ r ≡ (a || b) ⌝ }
+{
+    if a {
+        return true;
+    }
+    b
+}
+
+fn is_device_field(c: usize) -> bool
+    ensures { λ r. ⌜ r ≡ isKnownNumber Device c ⌝ }
+{
+    let named = either(
+        c == NAME,
+        either(
+            c == TYPE,
+            either(
+                c == CHILDREN,
+                either(c == ROOT, either(c == PARENT, c == EXTENSIONS)),
+            ),
+        ),
+    );
+    either(c == HOMIE, either(c == VERSION, either(c == NODES, named)))
+}
+
+fn is_node_field(c: usize) -> bool
+    ensures { λ r. ⌜ r ≡ isKnownNumber Node c ⌝ }
+{
+    either(c == NAME, either(c == TYPE, c == PROPERTIES))
+}
+
+fn is_property_field(c: usize) -> bool
+    ensures { λ r. ⌜ r ≡ isKnownNumber Property c ⌝ }
+{
+    either(
+        c == DATATYPE,
+        either(
+            c == NAME,
+            either(
+                c == UNIT,
+                either(c == FORMAT, either(c == SETTABLE, c == RETAINED)),
+            ),
+        ),
+    )
+}
+
+// Whether the number is that of a known field of such an object.
+fn is_known(owner: Owner, c: usize) -> bool
+    ensures { λ r. ⌜ r ≡ isKnownNumber owner c ⌝ }
+{
+    match owner {
+        Owner::Device => is_device_field(c),
+        Owner::Node => is_node_field(c),
+        Owner::Property => is_property_field(c),
+    }
+}
+
+// What is told of the name t at `i` with the number c, of which `first` is the place of the first value; 0 for none before it.
+fn name_told(owner: Owner, t: &[u8], c: usize, first: usize, i: usize) -> Told
+    ensures { λ r. ⌜ (Classified (now (t .entry)) c → r ≡ least (seenFaults owner (now (t .entry)) first i)) ⌝ }
+{
+    if c >= 15 {
+        if is_plain(t) {
+            return Told::Nothing;
+        }
+        return Told::At(i, OTHER_RULE);
+    }
+    if first == 0 {
+        return Told::Nothing;
+    }
+    if is_known(owner, c) {
+        return Told::At(i, REPEATED);
+    }
+    Told::Nothing
+}
+
+// The first of what is told and what is told of that name.
+fn more_told(told: Told, owner: Owner, t: &[u8], c: usize, first: usize, i: usize) -> Told
+    ensures { λ r. ⌜ (Classified (now (t .entry)) c → r ≡ earlier told (least (seenFaults owner (now (t .entry)) first i))) ⌝ }
+{
+    if c < 15 {
+        if first == 0 {
+            return told;
+        }
+    }
+    faults::earlier(told, name_told(owner, t, c, first, i))
+}
+
+// One member more of the name with that number, its value at `k`.
+fn see(seen: &mut [usize; 16], c: usize, k: usize)
+    requires { ⌜ (c < 16) × (length (now seen) ≡ 16) ⌝ }
+    ensures { λ _. ⌜ Saw c k (now (seen .entry)) (now (seen .exit)) ⌝ }
 {
     if seen[c] == 0 {
         seen[c] = k;
-        seen[16 + c] = 0;
-    } else {
-        seen[16 + c] = i;
     }
 }
 
 // What the members of the object at `at` are named, by one walk through it.
-pub fn known_fields(s: &[u8], at: usize, ends: &[u16]) -> Known
-    ensures { λ r. ⌜ (Ends (now (s .entry)) (now (ends .entry)) → Knows (now (s .entry)) at r) ⌝ }
+pub fn known_fields(owner: Owner, s: &[u8], at: usize, ends: &[u16]) -> Known
+    ensures { λ r. ⌜ (Ends (now (s .entry)) (now (ends .entry)) → Knows owner (now (s .entry)) at r) ⌝ }
 {
-    let mut seen = [0usize; 32];
+    let mut seen = [0usize; 16];
+    let mut told = Told::Nothing;
     if json::peek(s, at) != 123 {
         return Known {
-            plain: true,
+            told: told,
             seen: seen,
         };
     }
@@ -329,19 +435,15 @@ pub fn known_fields(s: &[u8], at: usize, ends: &[u16]) -> Known
         match json::member_by(s, i, ends) {
             Item::Done => {
                 return Known {
-                    plain: true,
+                    told: told,
                     seen: seen,
                 };
             }
             Item::At(k, _, n) => {
-                let c = classify(string_bytes_by(s, i, ends));
-                if c > 15 {
-                    return Known {
-                        plain: false,
-                        seen: seen,
-                    };
-                }
-                see(&mut seen, c, i, k);
+                let t = string_bytes_by(s, i, ends);
+                let c = classify(t);
+                told = more_told(told, owner, t, c, seen[c], i);
+                see(&mut seen, c, k);
                 i = n;
             }
         }
@@ -349,72 +451,110 @@ pub fn known_fields(s: &[u8], at: usize, ends: &[u16]) -> Known
 }
 
 // The known field with that number.
-pub fn field_at(seen: &[usize; 32], c: usize) -> Field
+pub fn field_at(seen: &[usize; 16], c: usize) -> Field
     ensures { λ r. ⌜ (c < 16 → r ≡ fieldAt (now (seen .entry)) c) ⌝ }
 {
     if c >= 16 {
         return Field::Absent;
     }
-    if seen[c] == 0 {
+    let k = seen[c];
+    if k == 0 {
         return Field::Absent;
     }
-    if seen[16 + c] == 0 {
-        return Field::One(seen[c]);
-    }
-    Field::Twice
+    Field::First(k)
 }
 
-fn is_item(s: &[u8], k: usize, ids: bool, ends: &[u16]) -> bool
-    ensures { λ r. ⌜ (Ends (now (s .entry)) (now (ends .entry)) → r ≡ itemTest ids (now (s .entry)) k) ⌝ }
+pub fn is_present(f: Field) -> bool
+    ensures { λ r. ⌜ r ≡ isPresent f ⌝ }
+{
+    match f {
+        Field::Absent => false,
+        Field::First(_) => true,
+    }
+}
+
+// What is told of a rule at `place`.
+fn rule_told(holds: bool, place: usize, number: u8) -> Told
+    ensures { λ r. ⌜ r ≡ least (holds otherwise fault place number) ⌝ }
+{
+    if holds {
+        return Told::Nothing;
+    }
+    Told::At(place, number)
+}
+
+// What is told of a value that should be a string.
+pub fn string_told(s: &[u8], k: usize) -> Told
+    ensures { λ r. ⌜ r ≡ least (stringFaults (now (s .entry)) k) ⌝ }
+{
+    rule_told(is_string(s, k), k, WRONG_KIND)
+}
+
+// What is told of a name that should be an ID.
+pub fn id_name_told(s: &[u8], i: usize, ends: &[u16]) -> Told
+    ensures { λ r. ⌜ (Ends (now (s .entry)) (now (ends .entry)) → r ≡ least (isId (stringBytes (now (s .entry)) i) otherwise otherRule i)) ⌝ }
+{
+    rule_told(text::is_id(string_bytes_by(s, i, ends)), i, OTHER_RULE)
+}
+
+// What is told of a value that should be a string that is an ID.
+fn id_told(s: &[u8], k: usize, ends: &[u16]) -> Told
+    ensures { λ r. ⌜ (Ends (now (s .entry)) (now (ends .entry)) → r ≡ least (idFaults (now (s .entry)) k)) ⌝ }
+{
+    if !is_string(s, k) {
+        return Told::At(k, WRONG_KIND);
+    }
+    id_name_told(s, k, ends)
+}
+
+fn item_told(s: &[u8], k: usize, ids: bool, ends: &[u16]) -> Told
+    ensures { λ r. ⌜ (Ends (now (s .entry)) (now (ends .entry)) → r ≡ least (itemFaults ids (now (s .entry)) k)) ⌝ }
 {
     if ids {
-        return is_id_text(s, k, ends);
+        return id_told(s, k, ends);
     }
-    is_string(s, k)
+    string_told(s, k)
 }
 
-// Whether an array stands at `at`, of IDs or of strings.
-fn is_array_of(s: &[u8], at: usize, ids: bool, ends: &[u16]) -> bool
-    ensures { λ r. ⌜ (Ends (now (s .entry)) (now (ends .entry)) → r ≡ arrayOf (itemTest ids) (now (s .entry)) at) ⌝ }
+// What is told of a value that should be an array of IDs or of strings.
+fn array_told(s: &[u8], at: usize, ids: bool, ends: &[u16]) -> Told
+    ensures { λ r. ⌜ (Ends (now (s .entry)) (now (ends .entry)) → r ≡ least (arrayFaults (itemFaults ids) (now (s .entry)) at)) ⌝ }
 {
     if json::peek(s, at) != 91 {
-        return false;
+        return Told::At(at, WRONG_KIND);
     }
+    let mut told = Told::Nothing;
     let mut i = json::skip(s, at + 1);
     loop {
         match json::element_by(s, i, ends) {
-            Item::Done => return true,
+            Item::Done => return told,
             Item::At(k, _, n) => {
-                if !is_item(s, k, ids, ends) {
-                    return false;
-                }
+                told = faults::earlier(told, item_told(s, k, ids, ends));
                 i = n;
             }
         }
     }
 }
 
-fn is_of_kind(s: &[u8], k: usize, kind: Kind, ends: &[u16]) -> bool
-    ensures { λ r. ⌜ (Ends (now (s .entry)) (now (ends .entry)) → r ≡ ofKind kind (now (s .entry)) k) ⌝ }
+fn kind_told(s: &[u8], k: usize, kind: Kind, ends: &[u16]) -> Told
+    ensures { λ r. ⌜ (Ends (now (s .entry)) (now (ends .entry)) → r ≡ least (kindFaults kind (now (s .entry)) k)) ⌝ }
 {
     match kind {
-        Kind::Text => is_string(s, k),
-        Kind::Flag => is_flag(s, k),
-        Kind::Object => is_object(s, k),
-        Kind::Id => is_id_text(s, k, ends),
-        Kind::Ids => is_array_of(s, k, true, ends),
-        Kind::Texts => is_array_of(s, k, false, ends),
+        Kind::Text => string_told(s, k),
+        Kind::Flag => rule_told(is_flag(s, k), k, WRONG_KIND),
+        Kind::Object => rule_told(is_object(s, k), k, WRONG_KIND),
+        Kind::Ids => array_told(s, k, true, ends),
+        Kind::Texts => array_told(s, k, false, ends),
     }
 }
 
-// Whether a field stands at most once, and then holds a value of that kind.
-pub fn is_optional(s: &[u8], f: Field, kind: Kind, ends: &[u16]) -> bool
-    ensures { λ r. ⌜ (Ends (now (s .entry)) (now (ends .entry)) → r ≡ optional kind (now (s .entry)) f) ⌝ }
+// What is told of a field that may be absent, and else holds a value of that kind.
+pub fn field_told(s: &[u8], f: Field, kind: Kind, ends: &[u16]) -> Told
+    ensures { λ r. ⌜ (Ends (now (s .entry)) (now (ends .entry)) → r ≡ least (fieldFaults kind (now (s .entry)) f)) ⌝ }
 {
     match f {
-        Field::Absent => true,
-        Field::One(k) => is_of_kind(s, k, kind, ends),
-        Field::Twice => false,
+        Field::Absent => Told::Nothing,
+        Field::First(k) => kind_told(s, k, kind, ends),
     }
 }
 
@@ -424,7 +564,6 @@ pub fn flag_in(s: &[u8], f: Field, default: bool) -> bool
 {
     match f {
         Field::Absent => default,
-        Field::One(k) => is_true(s, k),
-        Field::Twice => default,
+        Field::First(k) => is_true(s, k),
     }
 }

@@ -6,13 +6,14 @@ use mathlib.Core.Path.{_≡_, refl, ap, _∙_}
 use mathlib.Core.Bool.{true}
 use mathlib.Core.List.{List}
 use mathlib.Core.Option.{Option, some}
-use lib.ListN.{length, getD, drop, replicate, length-drop, length-replicate, getD-replicate, List·getD-eq-default}
+use lib.ListN.{length, getD, take, drop, replicate, length-drop, length-replicate, getD-replicate, List·getD-eq-default}
 use lib.Seq.{getD-drop}
 use lib.IntN.{ℤ}
 use Rattle.little_endian.specs.Bytes.{u64, put}
 use Rattle.numbers.specs.Whole.{stands}
 use Rattle.memory.specs.Layout.{roomSize}
 use Rattle.fields.specs.declared.Field.{Field}
+use Rattle.properties.specs.Entries.{contents, view}
 use Rattle.description.specs.declared.Description.{Description}
 use Rattle.description.specs.Description.{Described}
 use Rattle.description.specs.Meaning.{Shows}
@@ -81,8 +82,8 @@ module _ (m₀ m₁ m₂ s : List ℕ) (d : Description) (l : length m₀ ≡ ro
     counted = ap (λ (k : ℕ). min k propertiesMost) (w₂ .within .below countAt (omega arith)) ∙ w₁ .count
 
     properties-are : propertiesIn m₂ ≡ emptyLanes (x .properties)
-    unfolding propertiesIn
-    properties-are = rw counted (w₂ .rows (rw (h .properties) (f .each)) ∙ ap emptyLanes (h .properties))
+    unfolding propertiesIn view
+    properties-are = let q : contents s (take (d .properties .n) (d .properties .items)) ≡ x .properties = h .properties in rw counted (w₂ .rows (rw q (f .each)) ∙ ap emptyLanes q)
 
     there-is : isSet m₂ describedAt ≡ true
     there-is = set-alike (alike-below (w₂ .within) describedAt 1 (omega arith) (omega arith)) 0 refl refl (omega arith) ∙ w₁ .there

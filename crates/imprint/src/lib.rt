@@ -67,8 +67,7 @@ fn text_in(s: &[u8], f: Field) -> &[u8]
 {
     match f {
         Field::Absent => &s[..0],
-        Field::One(k) => fields::string_bytes(s, k),
-        Field::Twice => &s[..0],
+        Field::First(k) => fields::string_bytes(s, k),
     }
 }
 

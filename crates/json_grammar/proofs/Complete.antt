@@ -28,7 +28,7 @@ use Rattle.json.proofs.Numbers.{minus-yes, minus-no, sign-plus, sign-minus, sig
 use Rattle.abnf.specs.Abnf.{_·_, _/_, ∗_, x, opt, some, lit}
 use Rattle.json_grammar.specs.Rfc8259 as G
 use Rattle.abnf.proofs.Lead.{Many, over, again, expand}
-use Rattle.json_grammar.proofs.Depth.{Json, Lead, array-of, member-of, object-of, value}
+use Rattle.json_grammar.proofs.Depth.{Json, Lead, array-of, member-of, object-of, value, documentAt, document-16}
 use Rattle.json_grammar.proofs.Sound.{escaped}
 
 -- a byte at which a number is over
@@ -602,19 +602,19 @@ module _ (s : List ℕ) where
   unfolding isWs
   end-blank = ws-stop s (length s) (ap isWs (byte-out s (length s) (omega arith)))
 
-  document-is : (e : ℕ) → valueAt 16 s (ws s 0) ≡ End e → ws s e ≡ length s → documentOf s ≡ End (length s)
-  unfolding documentOf andThen atEnd
-  document-is e q b = rw (q, andThen) (rw b (rw (eq-eqb (length s) (length s) refl, atEnd)))
+  document-is : (d e : ℕ) → valueAt d s (ws s 0) ≡ End e → ws s e ≡ length s → documentAt d s ≡ End (length s)
+  unfolding documentAt andThen atEnd
+  document-is d e q b = rw (q, andThen) (rw b (rw (eq-eqb (length s) (length s) refl, atEnd)))
 
-  pub complete : Lead (expand G.rules 16 G.JSON-text) s [] → documentOf s ≡ End (length s)
+  pub complete : (d : ℕ) → Lead (expand G.rules d G.JSON-text) s [] → documentAt d s ≡ End (length s)
   unfolding value
-  complete (k, w, (j, v, z)) =
+  complete d (k, w, (j, v, z)) =
       let p = skip 0 s k (omega arith) refl w in
-      let r = value-end 16 (p .to) k j (p .fits) (p .rest) v (stop-ws j [] z stop-end) in
+      let r = value-end d (p .to) k j (p .fits) (p .rest) v (stop-ws j [] z stop-end) in
       let q = skip (r .to) j [] (r .fits) (r .rest) z in
       let n : length (drop (q .to) s) ≡ 0 = ap length (q .rest) in
       let c : q .to ≡ length s = (let g = length-drop (q .to) s in let y = q .fits in omega arith) in
-      document-is (r .end) (ap (valueAt 16 s) (sym (p .same)) ∙ r .is) (sym (r .same) ∙ sym (q .same) ∙ ap (ws s) c ∙ end-blank)
+      document-is d (r .end) (ap (valueAt d s) (sym (p .same)) ∙ r .is) (sym (r .same) ∙ sym (q .same) ∙ ap (ws s) c ∙ end-blank)
 
   -- an array or an object
   container-first : (k j : List ℕ) (at d : ℕ) → at ≤ length s → drop at s ≡ k → Lead (object-of (value d) / array-of (value d)) k j → opens (byte s (ws s at)) ≡ true
@@ -631,4 +631,4 @@ module _ (s : List ℕ) where
   unfolding value
   complete-container (k, w, (j, v, z)) =
       let p = skip 0 s k (omega arith) refl w in
-      (complete (k, w, (j, as-value v, z)), ap (λ (i : ℕ). opens (byte s i)) (sym (p .same)) ∙ container-first k j (p .to) 15 (p .fits) (p .rest) v)
+      (document-16 s ∙ complete 16 (k, w, (j, as-value v, z)), ap (λ (i : ℕ). opens (byte s i)) (sym (p .same)) ∙ container-first k j (p .to) 15 (p .fits) (p .rest) v)

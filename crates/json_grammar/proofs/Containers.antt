@@ -1,7 +1,7 @@
 -- A whole text, and one that is an array or an object.
 use Prim.Native.Nat.{ℕ}
 use native.Mathlib.Omega.{arith}
-use mathlib.Core.Path.{_≡_, refl, ap, _∙_}
+use mathlib.Core.Path.{_≡_, refl, sym, ap, _∙_}
 use mathlib.Core.Bool.{true, false, false≢true}
 use mathlib.Core.List.{List}
 use lib.ListN.{length}
@@ -14,19 +14,23 @@ use Rattle.json_grammar.specs.Rfc8259 as G
 use Rattle.json.specs.declared.Scan.{Scan}
 use Rattle.json.specs.declared.Scan.the-variants.{End, Bad}
 use Rattle.json.proofs.Bytes.{both}
+use Rattle.json_grammar.proofs.Depth.{documentAt, document-16}
 use Rattle.json_grammar.proofs.Sound.{sound-container}
 use Rattle.json_grammar.proofs.Complete.{complete-container}
 
 -- the reader goes on to the end or fails
-pub ends : (s : List ℕ) (e : ℕ) → documentOf s ≡ End e → e ≡ length s
-unfolding documentOf andThen atEnd
-ends s e q = go (valueAt 16 s (ws s 0)) q
+pub ends-at : (d : ℕ) (s : List ℕ) (e : ℕ) → documentAt d s ≡ End e → e ≡ length s
+unfolding documentAt andThen atEnd
+ends-at d s e q = go (valueAt d s (ws s 0)) q
   where
     go : (r : Scan) → andThen r (λ k. atEnd s (ws s k)) ≡ End e → e ≡ length s
     go (Bad k) q = let z : _≡_ {A = ℕ} 0 1 = cc in absurd (omega arith)
     go (End k) q = both (eqb (ws s k) (length s))
         (λ b. let f : atEnd s (ws s k) ≡ End (ws s k) = rw (b, atEnd) in let z : e ≡ ws s k = cc in z ∙ eqb-true _ _ b)
         (λ b. let f : atEnd s (ws s k) ≡ Bad (ws s k) = rw (b, atEnd) in let z : _≡_ {A = ℕ} 0 1 = cc in absurd (omega arith))
+
+pub ends : (s : List ℕ) (e : ℕ) → documentOf s ≡ End e → e ≡ length s
+ends s e q = ends-at 16 s e (sym (document-16 s) ∙ q)
 
 pub container-reads : (s : List ℕ) → isContainer s ≡ true → G.Container 16 s
 unfolding isContainer

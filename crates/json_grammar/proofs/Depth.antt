@@ -4,6 +4,9 @@ use mathlib.Core.Path.{_≡_, refl}
 use mathlib.Core.List.{List}
 use Rattle.abnf.specs.Abnf.{_·_, Abnf, _/_, ∗_, opt}
 use Rattle.abnf.proofs.Lead as L
+use Rattle.json.specs.Bytes.{ws, andThen}
+use Rattle.json.specs.Value.{valueAt, atEnd, documentOf}
+use Rattle.json.specs.declared.Scan.{Scan}
 use Rattle.json_grammar.specs.Rfc8259 as G
 
 abbrev pub Json : Type 0
@@ -37,3 +40,11 @@ text d = refl
 container : (d : ℕ) → L.expand G.rules (suc d) G.container ≡ G.ws · (object-of (value d) / array-of (value d)) · G.ws
 unfolding value
 container d = refl
+
+-- the reader of a whole text, to any depth
+unfoldable pub documentAt : ℕ → List ℕ → Scan
+documentAt d s = andThen (valueAt d s (ws s 0)) (λ e. atEnd s (ws s e))
+
+pub document-16 : (s : List ℕ) → documentOf s ≡ documentAt 16 s
+unfolding documentOf documentAt
+document-16 s = refl

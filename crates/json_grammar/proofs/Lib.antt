@@ -1,7 +1,14 @@
 pub mod Depth
+pub mod Broken
 pub mod Sound
 pub mod Complete
 pub mod Containers
+pub mod Stops
 pub mod Ends
 pub mod Listing
+pub mod Alike
+pub mod Deeper
+pub mod Grow
+pub mod Places
+pub mod Smallest
 pub mod Theorems

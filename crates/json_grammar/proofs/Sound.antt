@@ -1,8 +1,8 @@
--- What the reader accepts is in the grammar.
+-- What the reader accepts is in the grammar; and where it fails, what it has read can be completed.
 use Prim.Native.Nat.{ℕ, zero, suc, _+_, _≤_, _<_}
 use native.Mathlib.Numerals.{add-one}
 use native.Mathlib.Omega.{arith}
-use mathlib.Core.Path.{_≡_, refl, ap, _∙_, subst}
+use mathlib.Core.Path.{_≡_, refl, sym, ap, _∙_, subst}
 use mathlib.Core.Logic.{inl, inr}
 use mathlib.Core.List.{List, [], _∷_}
 use mathlib.Core.Bool.{Bool, true, false, _||_, _&&_, false≢true}
@@ -22,10 +22,12 @@ use Rattle.json.specs.declared.string.State.the-variants.{Plain, Escape, Hex4, 
 use Rattle.json.specs.declared.string.Move.{Move}
 use Rattle.json.specs.declared.string.Move.the-variants.{Go, Shut, Stuck}
 use Rattle.json.proofs.Bytes.{split, both, inside=}
-use Rattle.abnf.specs.Abnf.{_·_, _–_, _/_, ∗_, x, opt, some, lit}
+use Rattle.abnf.specs.Abnf.{ε, _·_, _–_, _/_, ∗_, x, opt, some, lit}
 use Rattle.json_grammar.specs.Rfc8259 as G
 use Rattle.abnf.proofs.Lead.{Many, over, again, expand}
-use Rattle.json_grammar.proofs.Depth.{Json, Lead, array-of, member-of, object-of, value}
+use Rattle.json_grammar.proofs.Depth.{Json, Lead, array-of, member-of, object-of, value, documentAt, document-16}
+use Rattle.text.proofs.Utf8Place.{AllAscii}
+use Rattle.json_grammar.proofs.Broken.{AsciiWord, Broken, Joins, Into, some-join, some-left, some-right, some-none, some-nothing, some-byte, some-x, some-lit, behind, before, broken-into, fresh}
 
 -- bytes at the front of a list
 pub or-cases {ℓ} : {X : Type ℓ} (a b : Bool) → (a || b) ≡ true → (a ≡ true → X) → (b ≡ true → X) → X
@@ -80,6 +82,51 @@ Rest Hex3 = G.HEXDIG · G.HEXDIG · G.HEXDIG · ∗ G.char · x 0x22
 Rest Hex2 = G.HEXDIG · G.HEXDIG · ∗ G.char · x 0x22
 Rest Hex1 = G.HEXDIG · ∗ G.char · x 0x22
 
+some-quote : AsciiWord (x 0x22)
+some-quote = some-x 34 (omega arith)
+
+some-hex : AsciiWord G.HEXDIG
+some-hex = some-left (some-byte 48 57 48 (omega arith) (omega arith) (omega arith))
+
+some-chars : AsciiWord (∗ G.char · x 0x22)
+some-chars = some-join some-none some-quote
+
+some-rest : (t : State) → AsciiWord (Rest t)
+some-rest Plain = some-chars
+some-rest Escape = some-join (some-left some-quote) some-chars
+some-rest Hex4 = some-join some-hex (some-join some-hex (some-join some-hex (some-join some-hex some-chars)))
+some-rest Hex3 = some-join some-hex (some-join some-hex (some-join some-hex some-chars))
+some-rest Hex2 = some-join some-hex (some-join some-hex some-chars)
+some-rest Hex1 = some-join some-hex some-chars
+
+some-digits : AsciiWord (some G.DIGIT)
+some-digits = some-join (some-byte 48 57 48 (omega arith) (omega arith) (omega arith)) some-none
+
+some-int : AsciiWord G.int
+some-int = some-left (some-x 48 (omega arith))
+
+some-opt : {a : Json} → AsciiWord (opt a)
+some-opt = some-right some-nothing
+
+some-tail : AsciiWord (opt G.frac · opt G.exp)
+some-tail = some-join some-opt some-opt
+
+some-number : AsciiWord G.number
+some-number = some-join some-opt (some-join some-int some-tail)
+
+some-string : AsciiWord G.string
+some-string = some-join some-quote some-chars
+
+some-value : (d : ℕ) → AsciiWord (value d)
+unfolding value
+some-value d = some-right (some-right (some-right (some-right (some-right (some-left some-number)))))
+
+some-shut : (k : ℕ) → k < 128 → AsciiWord (x k · G.ws)
+some-shut k h = some-join (some-x k h) some-none
+
+some-token : (k : ℕ) → k < 128 → AsciiWord (G.ws · x k · G.ws)
+some-token k h = some-join some-none (some-shut k h)
+
 -- a move is sound
 abbrev Step : State → ℕ → Move → Type 0
 Step t b (Go u) = (m r : List ℕ) → Lead (Rest u) m r → Lead (Rest t) (b ∷ m) r
@@ -132,17 +179,17 @@ step Hex2 b = step-hex Hex2 Hex1 b (λ m r d h. (m, d, h))
 step Hex1 b = step-hex Hex1 Plain b (λ m r d h. (m, d, h))
 
 module _ (s : List ℕ) where
-  -- where a scan ended the grammar's word did
+  -- where a scan ended the grammar's word did; where it failed, the word breaks off
   abbrev pub SoundFrom : Json → List ℕ → Scan → Type 0
   SoundFrom g l (End e) = Lead g l (drop e s)
-  SoundFrom g l (Bad e) = Unit {0}
+  SoundFrom g l (Bad e) = Broken g l (drop e s)
 
   abbrev pub Sound : Json → ℕ → Scan → Type 0
   Sound g at r = SoundFrom g (drop at s) r
 
   text-sound : (t : State) (l : List ℕ) (at : ℕ) → l ≡ drop at s → SoundFrom (Rest t) l (text t l at)
   unfolding text
-  text-sound t [] at e = tt
+  text-sound t [] at e = subst (Broken (Rest t) []) e (fresh (some-rest t) [])
   text-sound t (b ∷ bs) at e =
       go (textStep t b) refl (step t b) (λ u. text-sound u bs (at + 1) tail)
     where
@@ -151,12 +198,12 @@ module _ (s : List ℕ) where
 
       up : (u : State) → Step t b (Go u) → (r : Scan) → SoundFrom (Rest u) bs r → SoundFrom (Rest t) (b ∷ bs) r
       up u f (End k) w = f bs (drop k s) w
-      up u f (Bad k) w = tt
+      up u f (Bad k) w = record { word = b ∷ w .word; rest = w .rest; cut = ap (λ (l : List ℕ). b ∷ l) (w .cut); ascii = w .ascii; is = λ m. f _ m (w .is m) }
 
       go : (v : Move) → textStep t b ≡ v → Step t b v → ((u : State) → SoundFrom (Rest u) bs (text u bs (at + 1))) → SoundFrom (Rest t) (b ∷ bs) (text t (b ∷ bs) at)
       go (Go u) p f ih = rw (p, text) (up u f (text u bs (at + 1)) (ih u))
       go Shut p f ih = rw (p, text) (rw (← tail) (f bs))
-      go Stuck p f ih = rw (p, text) tt
+      go Stuck p f ih = rw (p, text) (subst (Broken (Rest t) (b ∷ bs)) e (fresh (some-rest t) (b ∷ bs)))
 
   -- one byte
   at-byte : (at b : ℕ) → byte s at ≡ b → b < 256 → drop at s ≡ b ∷ drop (at + 1) s
@@ -177,21 +224,25 @@ module _ (s : List ℕ) where
   unfolding digitsEnd past
   at-digits at = rw (drop-drop (run isDigit (drop at s)) at s) at (run-lead isDigit G.DIGIT lead-digit (drop at s))
 
-  -- two scans one after the other, and a scan of more
-  up : (a b : Json) (l m : List ℕ) → ((r : List ℕ) → Lead a l r → Lead b m r) → (q : Scan) → SoundFrom a l q → SoundFrom b m q
-  up a b l m f (End e) w = f (drop e s) w
-  up a b l m f (Bad e) w = tt
+  -- a scan of more, a scan after a word, two scans one after the other
+  up : (a c : Json) → Into a c → (i : ℕ) (q : Scan) → Sound a i q → Sound c i q
+  up a c f i (End e) w = f (drop i s) (drop e s) w
+  up a c f i (Bad e) w = broken-into a c f w
 
-  seq : (a b : Json) (l : List ℕ) (q : Scan) (k : ℕ → Scan) → SoundFrom a l q → ((e : ℕ) → Sound b e (k e)) → SoundFrom (a · b) l (andThen q k)
+  past-word : (a b c : Json) → Joins a b c → (i k : ℕ) → Lead a (drop i s) (drop k s) → (q : Scan) → Sound b k q → Sound c i q
+  past-word a b c j i k w (End e) v = j (drop i s) (drop k s) (drop e s) w v
+  past-word a b c j i k w (Bad e) v = behind a b c j w v
+
+  seq : (a b c : Json) → Joins a b c → AsciiWord b → (i : ℕ) (q : Scan) (k : ℕ → Scan) → Sound a i q → ((e : ℕ) → Sound b e (k e)) → Sound c i (andThen q k)
   unfolding andThen
-  seq a b l (End e) k w f = up b (a · b) (drop e s) l (λ r h. (drop e s, w, h)) (k e) (f e)
-  seq a b l (Bad e) k w f = tt
+  seq a b c j p i (End e) k w f = past-word a b c j i e w (k e) (f e)
+  seq a b c j p i (Bad e) k w f = before a b c j w p
 
   string-sound : (at : ℕ) → Sound G.string at (stringAt s at)
   unfolding stringAt
   string-sound at = both (eqb (byte s at) 34)
-      (λ e. rw (e, stringAt) (up (Rest Plain) G.string (drop (at + 1) s) (drop at s) (λ r h. (drop (at + 1) s, at-x at 34 e (omega arith), h)) (text Plain (drop (at + 1) s) (at + 1)) (text-sound Plain (drop (at + 1) s) (at + 1) refl)))
-      (λ e. rw (e, stringAt) tt)
+      (λ e. rw (e, stringAt) (past-word (x 0x22) (Rest Plain) G.string (λ k l m u v. (l, u, v)) at (at + 1) (at-x at 34 e (omega arith)) (text Plain (drop (at + 1) s) (at + 1)) (text-sound Plain (drop (at + 1) s) (at + 1) refl)))
+      (λ e. rw (e, stringAt) (fresh some-string (drop at s)))
 
   -- numbers
   digit-is : (at : ℕ) → isDigit (byte s at) ≡ true → (48 ≤ byte s at) × (byte s at ≤ 57)
@@ -202,13 +253,13 @@ module _ (s : List ℕ) where
   unfolding someDigits
   some-sound at = both (isDigit (byte s at))
       (λ e. let q = digit-is at e in rw (e, someDigits) (drop (at + 1) s, at-in at 48 57 (q .0) (q .1) (omega arith), at-digits (at + 1)))
-      (λ e. rw (e, someDigits) tt)
+      (λ e. rw (e, someDigits) (fresh some-digits (drop at s)))
 
   int-digits : (at : ℕ) → (byte s at ≡ 48 → ⊥) → Sound G.int at (someDigits s at)
   unfolding someDigits
   int-digits at f = both (isDigit (byte s at))
       (λ e. let q = digit-is at e in rw (e, someDigits) (inr (drop (at + 1) s, at-in at 49 57 (omega arith) (q .1) (omega arith), at-digits (at + 1))))
-      (λ e. rw (e, someDigits) tt)
+      (λ e. rw (e, someDigits) (fresh some-int (drop at s)))
 
   int-sound : (at : ℕ) → Sound G.int at (intAt s at)
   unfolding intAt
@@ -217,7 +268,7 @@ module _ (s : List ℕ) where
   frac-sound : (at : ℕ) → Sound (opt G.frac) at (fracAt s at)
   unfolding fracAt
   frac-sound at = both (eqb (byte s at) 46)
-      (λ e. rw (e, fracAt) (up (some G.DIGIT) (opt G.frac) (drop (at + 1) s) (drop at s) (λ r h. inl (drop (at + 1) s, at-x at 46 e (omega arith), h)) (someDigits s (at + 1)) (some-sound (at + 1))))
+      (λ e. rw (e, fracAt) (past-word (x 46) (some G.DIGIT) (opt G.frac) (λ k l m u v. inl (l, u, v)) at (at + 1) (at-x at 46 e (omega arith)) (someDigits s (at + 1)) (some-sound (at + 1))))
       (λ e. rw (e, fracAt) (inr refl))
 
   minus-sound : (at : ℕ) → Lead (opt (x 0x2D)) (drop at s) (drop (optional isMinus s at) s)
@@ -237,26 +288,23 @@ module _ (s : List ℕ) where
   exp-sound : (at : ℕ) → Sound (opt G.exp) at (expAt s at)
   unfolding expAt
   exp-sound at = let j : ℕ = optional isSign s (at + 1) in both (isExp (byte s at))
-      (λ e. rw (e, expAt) (up (some G.DIGIT) (opt G.exp) (drop j s) (drop at s) (λ r h. inl (drop (at + 1) s, exp-byte at e, (drop j s, sign-sound (at + 1), h))) (someDigits s j) (some-sound j)))
+      (λ e. rw (e, expAt) (past-word (G.e · opt (G.minus / G.plus)) (some G.DIGIT) (opt G.exp) (λ k l m u v. inl (u .0, u .1, (l, u .2, v))) at j (drop (at + 1) s, exp-byte at e, sign-sound (at + 1)) (someDigits s j) (some-sound j)))
       (λ e. rw (e, expAt) (inr refl))
 
   number-sound : (at : ℕ) → Sound G.number at (numberAt s at)
   unfolding numberAt
-  number-sound at = let i : ℕ = optional isMinus s at in
-      up (G.int · opt G.frac · opt G.exp) G.number (drop i s) (drop at s) (λ r h. (drop i s, minus-sound at, h)) (numberAt s at)
-      (seq G.int (opt G.frac · opt G.exp) (drop i s) (intAt s i) _ (int-sound i) (λ j. seq (opt G.frac) (opt G.exp) (drop j s) (fracAt s j) _ (frac-sound j) exp-sound))
+  number-sound at =
+      past-word (opt G.minus) (G.int · opt G.frac · opt G.exp) G.number (λ k l m u v. (l, u, v)) at (optional isMinus s at) (minus-sound at) (numberAt s at)
+      (seq G.int (opt G.frac · opt G.exp) (G.int · opt G.frac · opt G.exp) (λ k l m u v. (l, u, v)) some-tail (optional isMinus s at) (intAt s (optional isMinus s at)) _ (int-sound (optional isMinus s at))
+      (λ j. seq (opt G.frac) (opt G.exp) (opt G.frac · opt G.exp) (λ k l m u v. (l, u, v)) some-opt j (fracAt s j) _ (frac-sound j) exp-sound))
 
   -- words
-  abbrev Small : List ℕ → Type 0
-  Small [] = Unit {0}
-  Small (b ∷ bs) = (b < 256) × Small bs
-
-  word-sound : (w : List ℕ) (at : ℕ) → Small w → Sound (lit w) at (word w s at)
+  word-sound : (w : List ℕ) (at : ℕ) → AllAscii w → Sound (lit w) at (word w s at)
   unfolding word
   word-sound [] at h = refl
-  word-sound (b ∷ bs) at h = let t = word-sound bs (at + 1) (h .1) in both (eqb (byte s at) b)
-      (λ e. rw (e, word) (up (lit bs) (lit (b ∷ bs)) (drop (at + 1) s) (drop at s) (λ r k. (drop (at + 1) s, at-x at b e (h .0), k)) (word bs s (at + 1)) t))
-      (λ e. rw (e, word) tt)
+  word-sound (b ∷ bs) at h = let t = word-sound bs (at + 1) (h .1) in let g = h .0 in both (eqb (byte s at) b)
+      (λ e. rw (e, word) (past-word (x b) (lit bs) (lit (b ∷ bs)) (λ k l m u v. (l, u, v)) at (at + 1) (at-x at b e (omega arith)) (word bs s (at + 1)) t))
+      (λ e. rw (e, word) (fresh (some-lit (b ∷ bs) h) (drop at s)))
 
   -- a structural byte with the white space that the reader skips before it and after it, or after it alone
   pub token : (at k : ℕ) → eqb (byte s (ws s at)) k ≡ true → k < 256 → Lead (G.ws · x k · G.ws) (drop at s) (drop (ws s (ws s at + 1)) s)
@@ -271,55 +319,65 @@ module _ (s : List ℕ) where
   pub shuts : (at k : ℕ) → eqb (byte s at) k ≡ true → k < 256 → Lead (G.ws · x k · G.ws) (drop at s) (drop (at + 1) s)
   shuts at k e h = (drop at s, over, (drop (at + 1) s, at-x at k e h, over))
 
-  module _ (I : Json) (item : ℕ → Scan) (close : ℕ) (small : close < 256) (ok : (i : ℕ) → Sound I i (item i)) where
-    series-sound : (f i : ℕ) → Sound ((I · ∗ (G.value-separator · I)) · (G.ws · x close · G.ws)) i (series item close s f i)
-    unfolding series andThen after
-    series-sound zero i = tt
-    series-sound (suc f) i = go (item i) (ok i) (λ j. series-sound f j)
-      where
-        next : (e j : ℕ) → Lead I (drop i s) (drop e s) → Lead G.value-separator (drop e s) (drop j s) → (r : List ℕ) →
-            Lead ((I · ∗ (G.value-separator · I)) · (G.ws · x close · G.ws)) (drop j s) r →
-            Lead ((I · ∗ (G.value-separator · I)) · (G.ws · x close · G.ws)) (drop i s) r
-        next e j w v r h = let g = h .1 in (h .0, (drop e s, w, again (drop j s, v, g .1) (g .2)), h .2)
+  -- no such byte stands there
+  missing : (a : Json) (k at : ℕ) → k < 128 → Into (G.ws · x k · G.ws) a → Broken a (drop at s) (drop (ws s at) s)
+  missing a k at h f = behind G.ws (x k · G.ws) a (λ i j m u v. f i m (j, u, v)) (at-ws at) (fresh (some-shut k h) (drop (ws s at) s))
 
-        go : (q : Scan) → Sound I i q → ((j : ℕ) → Sound ((I · ∗ (G.value-separator · I)) · (G.ws · x close · G.ws)) j (series item close s f j)) →
-            Sound ((I · ∗ (G.value-separator · I)) · (G.ws · x close · G.ws)) i (andThen q (λ e. after (λ j. series item close s f j) close s (ws s e)))
-        go (Bad e) w ih = tt
-        go (End e) w ih = let j : ℕ = ws s (ws s e + 1) in both (eqb (byte s (ws s e)) 44)
-            (λ b. rw (b, after) (up _ _ (drop j s) (drop i s) (next e j w (token e 44 b (omega arith))) (series item close s f j) (ih j)))
-            (λ b. rw (b, after) (both (eqb (byte s (ws s e)) close)
-            (λ c. rw c (drop e s, (drop e s, w, over), closes e close c small))
-            (λ c. rw c tt)))
+  -- items; Tail is what may follow one
+  module _ (I : Json) (item : ℕ → Scan) (close : ℕ) (small : close < 128) (one : AsciiWord I) (ok : (i : ℕ) → Sound I i (item i)) where
+    abbrev Tail : Json
+    Tail = ∗ (G.value-separator · I) · (G.ws · x close · G.ws)
+
+    some-end : AsciiWord Tail
+    some-end = some-join some-none (some-token close small)
+
+    after-sound : (next : ℕ → Scan) → ((i : ℕ) → Sound (I · Tail) i (next i)) → (e : ℕ) → Sound Tail e (after next close s (ws s e))
+    unfolding after
+    after-sound next f e = let j : ℕ = ws s (ws s e + 1) in both (eqb (byte s (ws s e)) 44)
+        (λ b. rw (b, after) (past-word G.value-separator (I · Tail) Tail (λ k l m u v. (v .2 .0, again (l, u, v .1) (v .2 .1), v .2 .2)) e j (token e 44 b (omega arith)) (next j) (f j)))
+        (λ b. rw (b, after) (both (eqb (byte s (ws s e)) close)
+        (λ c. rw c (drop e s, over, closes e close c (omega arith)))
+        (λ c. rw c (missing Tail close e small (λ k m u. (k, over, u))))))
+
+    series-sound : (f i : ℕ) → Sound (I · Tail) i (series item close s f i)
+    unfolding series
+    series-sound zero i = fresh (some-join one some-end) (drop i s)
+    series-sound (suc f) i = seq I Tail (I · Tail) (λ k l m u v. (l, u, v)) some-end i (item i) _ (ok i) (after-sound (λ j. series item close s f j) (λ j. series-sound f j))
 
     list-sound : (i : ℕ) → Sound (opt (I · ∗ (G.value-separator · I)) · (G.ws · x close · G.ws)) i (listOf item close s i)
     unfolding listOf
     list-sound i = both (eqb (byte s i) close)
-        (λ c. rw (c, listOf) (drop i s, inr refl, shuts i close c small))
-        (λ c. rw (c, listOf) (up _ _ (drop i s) (drop i s) (λ r h. (h .0, inl (h .1), h .2)) (series item close s (length s) i) (series-sound (length s) i)))
+        (λ c. rw (c, listOf) (drop i s, inr refl, shuts i close c (omega arith)))
+        (λ c. rw (c, listOf) (up (I · Tail) (opt (I · ∗ (G.value-separator · I)) · (G.ws · x close · G.ws)) (λ k m u. (u .2 .0, inl (u .0, u .1, u .2 .1), u .2 .2)) i (series item close s (length s) i) (series-sound (length s) i)))
 
   colon-sound : (at : ℕ) → Sound G.name-separator at (colon s (ws s at))
   unfolding colon
-  colon-sound at = both (eqb (byte s (ws s at)) 58) (λ e. rw (e, colon) (token at 58 e (omega arith))) (λ e. rw (e, colon) tt)
+  colon-sound at = both (eqb (byte s (ws s at)) 58)
+      (λ e. rw (e, colon) (token at 58 e (omega arith)))
+      (λ e. rw (e, colon) (missing G.name-separator 58 at (omega arith) (λ k m u. u)))
 
   pub key-sound : (at : ℕ) → Sound (G.string · G.name-separator) at (keyAt s at)
   unfolding keyAt
-  key-sound at = seq _ _ (drop at s) (stringAt s at) _ (string-sound at) colon-sound
+  key-sound at = seq G.string G.name-separator (G.string · G.name-separator) (λ k l m u v. (l, u, v)) (some-token 58 (omega arith)) at (stringAt s at) _ (string-sound at) colon-sound
 
-  module _ (A : Json) (v : ℕ → Scan) (ok : (i : ℕ) → Sound A i (v i)) where
+  module _ (A : Json) (v : ℕ → Scan) (one : AsciiWord A) (ok : (i : ℕ) → Sound A i (v i)) where
     array-sound : (at : ℕ) → eqb (byte s at) 91 ≡ true → Sound (array-of A) at (arrayOf v s at)
     unfolding arrayOf
-    array-sound at e = up _ (array-of A) (drop (ws s (at + 1)) s) (drop at s) (λ r h. (drop (ws s (at + 1)) s, begins at 91 e (omega arith), h)) (arrayOf v s at) (list-sound A v 93 (omega arith) ok (ws s (at + 1)))
+    array-sound at e = past-word G.begin-array (opt (A · ∗ (G.value-separator · A)) · G.end-array) (array-of A) (λ k l m u w. (l, u, w)) at (ws s (at + 1)) (begins at 91 e (omega arith)) (arrayOf v s at) (list-sound A v 93 (omega arith) one ok (ws s (at + 1)))
+
+    some-member : AsciiWord (member-of A)
+    some-member = some-join some-string (some-join (some-token 58 (omega arith)) one)
 
     member-sound : (at : ℕ) → Sound (member-of A) at (memberOf v s at)
     unfolding memberOf
-    member-sound at = up ((G.string · G.name-separator) · A) (member-of A) (drop at s) (drop at s) (λ r h. let g = h .1 in (g .0, g .1, (h .0, g .2, h .2))) (memberOf v s at) (seq _ _ (drop at s) (keyAt s at) v (key-sound at) ok)
+    member-sound at = seq (G.string · G.name-separator) A (member-of A) (λ k l m u w. (u .0, u .1, (l, u .2, w))) one at (keyAt s at) v (key-sound at) ok
 
     object-sound : (at : ℕ) → eqb (byte s at) 123 ≡ true → Sound (object-of A) at (objectOf v s at)
     unfolding objectOf
-    object-sound at e = up _ (object-of A) (drop (ws s (at + 1)) s) (drop at s) (λ r h. (drop (ws s (at + 1)) s, begins at 123 e (omega arith), h)) (objectOf v s at) (list-sound (member-of A) (λ i. memberOf v s i) 125 (omega arith) member-sound (ws s (at + 1)))
+    object-sound at e = past-word G.begin-object (opt (member-of A · ∗ (G.value-separator · member-of A)) · G.end-object) (object-of A) (λ k l m u w. (l, u, w)) at (ws s (at + 1)) (begins at 123 e (omega arith)) (objectOf v s at) (list-sound (member-of A) (λ i. memberOf v s i) 125 (omega arith) some-member member-sound (ws s (at + 1)))
 
   -- what a kind says of the byte
-  abbrev Of : ℕ → Kind → Type 0
+  abbrev pub Of : ℕ → Kind → Type 0
   Of b bracket = eqb b 91 ≡ true
   Of b brace = eqb b 123 ≡ true
   Of b quote = Unit {0}
@@ -328,7 +386,7 @@ module _ (s : List ℕ) where
   Of b nullWord = Unit {0}
   Of b other = Unit {0}
 
-  kind-of : (b : ℕ) → Of b (kindOf b)
+  pub kind-of : (b : ℕ) → Of b (kindOf b)
   unfolding kindOf
   kind-of b =
       both (eqb b 91) (λ e. rw e e) λ e. rw e
@@ -338,22 +396,22 @@ module _ (s : List ℕ) where
       (both (eqb b 102) (λ i. rw i tt) λ i. rw i
       (both (eqb b 110) (λ j. rw j tt) (λ j. rw j tt))))))
 
-  -- what a value of this depth may be that is no array and no object
+  -- what a value of this depth may be that is no array and no object; where no depth is left, a number can stand for either
   leaf : (d at : ℕ) (k : Kind) → Of (byte s at) k → Sound (value d) at (valueOf k Bad Bad s at)
   unfolding valueOf value
-  leaf d at bracket h = tt
-  leaf d at brace h = tt
-  leaf d at quote h = up G.string (value d) (drop at s) (drop at s) (λ r w. inr (inr (inr (inr (inr (inr w)))))) (stringAt s at) (string-sound at)
-  leaf d at trueWord h = up G.true (value d) (drop at s) (drop at s) (λ r w. inr (inr (inl w))) (valueOf trueWord Bad Bad s at) (word-sound (116 ∷ 114 ∷ 117 ∷ 101 ∷ []) at (omega arith))
-  leaf d at falseWord h = up G.false (value d) (drop at s) (drop at s) (λ r w. inl w) (valueOf falseWord Bad Bad s at) (word-sound (102 ∷ 97 ∷ 108 ∷ 115 ∷ 101 ∷ []) at (omega arith))
-  leaf d at nullWord h = up G.null (value d) (drop at s) (drop at s) (λ r w. inr (inl w)) (valueOf nullWord Bad Bad s at) (word-sound (110 ∷ 117 ∷ 108 ∷ 108 ∷ []) at (omega arith))
-  leaf d at other h = up G.number (value d) (drop at s) (drop at s) (λ r w. inr (inr (inr (inr (inr (inl w)))))) (numberAt s at) (number-sound at)
+  leaf d at bracket h = fresh (some-value d) (drop at s)
+  leaf d at brace h = fresh (some-value d) (drop at s)
+  leaf d at quote h = up G.string (value d) (λ l r w. inr (inr (inr (inr (inr (inr w)))))) at (stringAt s at) (string-sound at)
+  leaf d at trueWord h = up G.true (value d) (λ l r w. inr (inr (inl w))) at (valueOf trueWord Bad Bad s at) (word-sound (116 ∷ 114 ∷ 117 ∷ 101 ∷ []) at (omega arith))
+  leaf d at falseWord h = up G.false (value d) (λ l r w. inl w) at (valueOf falseWord Bad Bad s at) (word-sound (102 ∷ 97 ∷ 108 ∷ 115 ∷ 101 ∷ []) at (omega arith))
+  leaf d at nullWord h = up G.null (value d) (λ l r w. inr (inl w)) at (valueOf nullWord Bad Bad s at) (word-sound (110 ∷ 117 ∷ 108 ∷ 108 ∷ []) at (omega arith))
+  leaf d at other h = up G.number (value d) (λ l r w. inr (inr (inr (inr (inr (inl w)))))) at (numberAt s at) (number-sound at)
 
   node : (d at : ℕ) (a o : ℕ → Scan) → (eqb (byte s at) 91 ≡ true → Sound (array-of (value d)) at (a at)) → (eqb (byte s at) 123 ≡ true → Sound (object-of (value d)) at (o at)) →
       (k : Kind) → Of (byte s at) k → Sound (value (suc d)) at (valueOf k a o s at)
   unfolding valueOf value
-  node d at a o f g bracket h = up (array-of (value d)) (value (suc d)) (drop at s) (drop at s) (λ r w. inr (inr (inr (inr (inl w))))) (a at) (f h)
-  node d at a o f g brace h = up (object-of (value d)) (value (suc d)) (drop at s) (drop at s) (λ r w. inr (inr (inr (inl w)))) (o at) (g h)
+  node d at a o f g bracket h = up (array-of (value d)) (value (suc d)) (λ l r w. inr (inr (inr (inr (inl w))))) at (a at) (f h)
+  node d at a o f g brace h = up (object-of (value d)) (value (suc d)) (λ l r w. inr (inr (inr (inl w)))) at (o at) (g h)
   node d at a o f g quote h = leaf (suc d) at quote h
   node d at a o f g trueWord h = leaf (suc d) at trueWord h
   node d at a o f g falseWord h = leaf (suc d) at falseWord h
@@ -365,19 +423,26 @@ module _ (s : List ℕ) where
   value-sound zero at = leaf 0 at (kindOf (byte s at)) (kind-of (byte s at))
   value-sound (suc d) at =
       node d at (λ i. arrayOf (λ j. valueAt d s j) s i) (λ i. objectOf (λ j. valueAt d s j) s i)
-      (array-sound (value d) (λ j. valueAt d s j) (λ j. value-sound d j) at)
-      (object-sound (value d) (λ j. valueAt d s j) (λ j. value-sound d j) at)
+      (array-sound (value d) (λ j. valueAt d s j) (some-value d) (λ j. value-sound d j) at)
+      (object-sound (value d) (λ j. valueAt d s j) (some-value d) (λ j. value-sound d j) at)
       (kindOf (byte s at)) (kind-of (byte s at))
 
   end-sound : (e : ℕ) → Sound G.ws e (atEnd s (ws s e))
   unfolding atEnd
-  end-sound e = both (eqb (ws s e) (length s)) (λ q. rw (q, atEnd) (at-ws e)) (λ q. rw (q, atEnd) tt)
+  end-sound e = both (eqb (ws s e) (length s))
+      (λ q. rw (q, atEnd) (at-ws e))
+      (λ q. rw (q, atEnd) (behind G.ws ε G.ws (λ k l m u v. subst (Lead G.ws k) v u) (at-ws e) (fresh some-nothing (drop (ws s e) s))))
 
-  document-sound : Sound (expand G.rules 16 G.JSON-text) 0 (documentOf s)
-  unfolding documentOf value
-  document-sound =
-      up (value 16 · G.ws) (expand G.rules 16 G.JSON-text) (drop (ws s 0) s) s (λ r h. (drop (ws s 0) s, at-ws 0, h)) (documentOf s)
-      (seq (value 16) G.ws (drop (ws s 0) s) (valueAt 16 s (ws s 0)) _ (value-sound 16 (ws s 0)) end-sound)
+  -- white space around
+  around : (d : ℕ) (A : Json) → Sound A (ws s 0) (valueAt d s (ws s 0)) → Sound (G.ws · A · G.ws) 0 (documentAt d s)
+  unfolding documentAt
+  around d A w =
+      past-word G.ws (A · G.ws) (G.ws · A · G.ws) (λ k l m u v. (l, u, v)) 0 (ws s 0) (at-ws 0) (documentAt d s)
+      (seq A G.ws (A · G.ws) (λ k l m u v. (l, u, v)) some-none (ws s 0) (valueAt d s (ws s 0)) _ w end-sound)
+
+  document-sound : (d : ℕ) → Sound (expand G.rules d G.JSON-text) 0 (documentAt d s)
+  unfolding value
+  document-sound d = around d (value d) (value-sound d (ws s 0))
 
   -- an array or an object between white space
   container-value : (d at : ℕ) → opens (byte s at) ≡ true → Sound (object-of (value d) / array-of (value d)) at (valueAt (suc d) s at)
@@ -386,20 +451,22 @@ module _ (s : List ℕ) where
       let a : ℕ → Scan = λ i. arrayOf (λ j. valueAt d s j) s i in
       let o : ℕ → Scan = λ i. objectOf (λ j. valueAt d s j) s i in
       or-cases (eqb (byte s at) 91) (eqb (byte s at) 123) e
-      (λ p. rw p (up (array-of (value d)) (object-of (value d) / array-of (value d)) (drop at s) (drop at s) (λ r w. inr w) (a at) (array-sound (value d) (λ j. valueAt d s j) (λ j. value-sound d j) at p)))
-      (λ p. let q : byte s at ≡ 123 = eqb-true _ _ p in rw q (up (object-of (value d)) (object-of (value d) / array-of (value d)) (drop at s) (drop at s) (λ r w. inl w) (o at) (object-sound (value d) (λ j. valueAt d s j) (λ j. value-sound d j) at p)))
+      (λ p. rw p (up (array-of (value d)) (object-of (value d) / array-of (value d)) (λ l r w. inr w) at (a at) (array-sound (value d) (λ j. valueAt d s j) (some-value d) (λ j. value-sound d j) at p)))
+      (λ p. let q : byte s at ≡ 123 = eqb-true _ _ p in rw q (up (object-of (value d)) (object-of (value d) / array-of (value d)) (λ l r w. inl w) at (o at) (object-sound (value d) (λ j. valueAt d s j) (some-value d) (λ j. value-sound d j) at p)))
 
-  container-sound : opens (byte s (ws s 0)) ≡ true → Sound (expand G.rules 16 G.container) 0 (documentOf s)
-  unfolding documentOf value
-  container-sound e =
-      up ((object-of (value 15) / array-of (value 15)) · G.ws) (expand G.rules 16 G.container) (drop (ws s 0) s) s (λ r h. (drop (ws s 0) s, at-ws 0, h)) (documentOf s)
-      (seq (object-of (value 15) / array-of (value 15)) G.ws (drop (ws s 0) s) (valueAt 16 s (ws s 0)) _ (container-value 15 (ws s 0) e) end-sound)
+  container-sound : opens (byte s (ws s 0)) ≡ true → Sound (expand G.rules 16 G.container) 0 (documentAt 16 s)
+  unfolding value
+  container-sound e = around 16 (object-of (value 15) / array-of (value 15)) (container-value 15 (ws s 0) e)
 
-  to-end : (a : Json) → documentOf s ≡ End (length s) → Sound a 0 (documentOf s) → Lead a s []
-  to-end a e w = rw (drop-length s) at (subst (SoundFrom a s) e w)
+  to-end : (a : Json) (d : ℕ) → documentAt d s ≡ End (length s) → Sound a 0 (documentAt d s) → Lead a s []
+  to-end a d e w = rw (drop-length s) at (subst (SoundFrom a s) e w)
 
-  pub sound : documentOf s ≡ End (length s) → Lead (expand G.rules 16 G.JSON-text) s []
-  sound e = to-end (expand G.rules 16 G.JSON-text) e document-sound
+  pub sound : (d : ℕ) → documentAt d s ≡ End (length s) → Lead (expand G.rules d G.JSON-text) s []
+  sound d e = to-end (expand G.rules d G.JSON-text) d e (document-sound d)
 
   pub sound-container : documentOf s ≡ End (length s) → opens (byte s (ws s 0)) ≡ true → Lead (expand G.rules 16 G.container) s []
-  sound-container e b = to-end (expand G.rules 16 G.container) e (container-sound b)
+  sound-container e b = to-end (expand G.rules 16 G.container) 16 (sym (document-16 s) ∙ e) (container-sound b)
+
+  -- what is read before a bad place can be completed
+  pub broken : (d p : ℕ) → documentAt d s ≡ Bad p → Broken (expand G.rules d G.JSON-text) s (drop p s)
+  broken d p e = subst (SoundFrom (expand G.rules d G.JSON-text) s) e (document-sound d)

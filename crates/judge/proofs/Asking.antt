@@ -9,7 +9,7 @@ use lib.Dec.{leb, eqb}
 use lib.ListN.{length, getD, take, drop, length-append, length-take, length-drop}
 use lib.Seq.{take-at}
 use borrow.Author.Tests.{le-leb, lt-leb}
-use Rattle.answer.specs.Answer.{Answer, refused, gives, require, andThen}
+use Rattle.answer.specs.Answer.{Answer, refused, gives, andThen, only}
 use Rattle.text.specs.Ascii.{ascii}
 use Rattle.text.specs.Bytes.{eqBytes, slice}
 use Rattle.text.specs.Split.{split, onto}
@@ -34,11 +34,12 @@ use Rattle.payload.specs.Datatypes.{datatypeNamed, named}
 use Rattle.topic.specs.declared.Topic.{Topic}
 use Rattle.topic.specs.Meaning.{meaning, Shows}
 use Rattle.topic.specs.Topics.{readTopic}
-use Rattle.fields.specs.Fields.{holds}
-use Rattle.description.specs.declared.Verdict.{Verdict}
-use Rattle.description.specs.Description.{rules}
-use Rattle.description.specs.Meaning.{verdict}
-use Rattle.judge.specs.Texts.{told, formText, eventText, usedText}
+use Rattle.faults.specs.declared.Told.{Told}
+use Rattle.faults.specs.declared.Told.the-variants.{Nothing, At}
+use Rattle.description.specs.Description as description
+use Rattle.description.proofs.Theorems.{told-nothing, told-at}
+use Rattle.judge.specs.Texts.{numbersText, told, formText, eventText, usedText}
+use Rattle.judge.specs.Parts.{toldText}
 use Rattle.judge.specs.Questions.{ofTopic, ofDescription, ofEvent, ofAppend}
 
 -- ---- words of a line
@@ -148,7 +149,7 @@ module _ (line : List ℕ) (k : ℕ) {w : List ℕ} (e : w ≡ wordAt line k) wh
 -- ---- answers of the trace
 
 module _ {f : List ℕ} {i : ℕ} {r : Reading} (p : Read f i r) where
-  pub read-refused : (k : ℕ) → r ≡ Reading.Refused k → readAt f i ≡ refused k
+  pub read-refused : (k : ℕ) → r ≡ Reading.Refused k → readAt f i ≡ refused (only k)
   unfolding meaningReading
   read-refused k e = sym (rw e at (p .answer))
 
@@ -187,13 +188,14 @@ pub topic-says : (domain topic : List ℕ) {at : ℕ} {t : Topic} → Shows topi
 unfolding ofTopic
 topic-says domain topic p = ap (told formText) (p .says)
 
-pub description-says : (own s : List ℕ) (v : Verdict) → verdict v ≡ require (holds (rules own s)) 15 (gives (tt {0})) → told (λ t. ascii "yes") (verdict v) ≡ ofDescription own s
-unfolding ofDescription
-description-says own s v p = ap (told (λ t. ascii "yes")) p
+pub description-says : (own s : List ℕ) (t : Told) → t ≡ description.told own s → toldText t ≡ ofDescription own s
+unfolding ofDescription toldText told
+description-says own s Nothing p = sym (ap (told (λ (d : description.Described). ascii "yes")) (told-nothing own s (sym p)))
+description-says own s (At q n) p = sym (ap (told (λ (d : description.Described). ascii "yes")) (told-at own s (sym p)))
 
 module _ {f : List ℕ} {i : ℕ} {r : Reading} (p : Read f i r) where
   pub event-refused : (k : ℕ) → r ≡ Reading.Refused k → ascii "refused " ++ decimalText k ≡ ofEvent f i
-  unfolding ofEvent told
+  unfolding ofEvent told numbersText
   event-refused k e = rw (read-refused p k e)
 
   pub event-found : (e : EventAt) → r ≡ Reading.Found e → eventText (shown f e) ≡ ofEvent f i

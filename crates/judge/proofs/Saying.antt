@@ -19,9 +19,10 @@ use Rattle.trace.specs.declared.EventAt.{EventAt}
 use Rattle.trace.specs.declared.Checked.{Checked}
 use Rattle.trace.specs.declared.Written.{Written}
 use Rattle.trace.specs.Calls.{shown, meaningChecked, meaningWritten}
-use Rattle.description.specs.declared.Verdict.{Verdict}
-use Rattle.description.specs.Meaning.{verdict}
-use Rattle.judge.specs.Texts.{yesOrNo, told, flagText, also, threeIds, formText, eventsText, eventText, usedText}
+use Rattle.faults.specs.declared.Told.{Told}
+use Rattle.faults.specs.declared.Told.the-variants.{Nothing, At}
+use Rattle.judge.specs.Texts.{yesOrNo, numbersText, told, flagText, also, threeIds, formText, eventsText, eventText, usedText}
+use Rattle.judge.specs.Parts.{toldText}
 
 -- the same text by another name
 pub says : {d d′ t u : List ℕ} {at r : ℕ} → t ≡ u → Adds d at t r d′ → Adds d at u r d′
@@ -46,7 +47,7 @@ says-zero b e = rw e
 -- what an answer says, case by case
 module _ (topic : List ℕ) (t : Topic) where
   pub no-form : {k : ℕ} → t ≡ Topic.Refused k → ascii "refused " ++ decimalText k ≡ told formText (meaning topic t)
-  unfolding told meaning
+  unfolding told numbersText meaning
   no-form e = rw e
 
   pub is-state : {d : Place} → t ≡ Topic.State d → ascii "state" ++ also (bytesAt topic d) ≡ told formText (meaning topic t)
@@ -86,23 +87,23 @@ module _ (topic : List ℕ) (t : Topic) where
   is-other e = rw e
 
 pub no-events : (c : Checked) {k : ℕ} → c ≡ Checked.Refused k → ascii "refused " ++ decimalText k ≡ told eventsText (meaningChecked c)
-unfolding told meaningChecked
+unfolding told numbersText meaningChecked
 no-events c e = rw e
 
 pub some-events : (c : Checked) {n : ℕ} → c ≡ Checked.Count n → ascii "events " ++ decimalText n ≡ told eventsText (meaningChecked c)
 unfolding told meaningChecked eventsText
 some-events c e = rw e
 
-pub not-taken : (v : Verdict) {k : ℕ} → v ≡ Verdict.Refused k → ascii "refused " ++ decimalText k ≡ told (λ t. ascii "yes") (verdict v)
-unfolding told verdict
-not-taken v e = rw e
+pub not-taken : (t : Told) {p k : ℕ} → t ≡ At p k → ascii "refused " ++ (decimalText k ++ (ascii " " ++ decimalText p)) ≡ toldText t
+unfolding toldText numbersText
+not-taken t e = rw e
 
-pub is-taken : (v : Verdict) → v ≡ Verdict.Taken → ascii "yes" ≡ told (λ t. ascii "yes") (verdict v)
-unfolding told verdict
-is-taken v e = rw e
+pub is-taken : (t : Told) → t ≡ Nothing → ascii "yes" ≡ toldText t
+unfolding toldText
+is-taken t e = rw e
 
 pub not-used : (m : List ℕ) (w : Written) {k : ℕ} → w ≡ Written.Refused k → ascii "refused " ++ decimalText k ≡ told (usedText m) (meaningWritten w)
-unfolding told meaningWritten
+unfolding told numbersText meaningWritten
 not-used m w e = rw e
 
 pub is-used : (m : List ℕ) (w : Written) {n : ℕ} → w ≡ Written.Length n → ascii "used " ++ (decimalText n ++ (ascii " " ++ hexOf m)) ≡ told (usedText m) (meaningWritten w)

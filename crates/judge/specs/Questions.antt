@@ -4,7 +4,7 @@ use mathlib.Core.List.{List}
 use mathlib.Core.Bool.{Bool, cond}
 use lib.Dec.{eqb}
 use lib.ListN.{length}
-use Rattle.answer.specs.Answer.{Answer, gives, require}
+use Rattle.answer.specs.Answer.{Answer, gives}
 use Rattle.text.specs.Ascii.{ascii}
 use Rattle.text.specs.Bytes.{eqBytes}
 use Rattle.text.specs.Ids.{isId}
@@ -17,8 +17,7 @@ use Rattle.topic.specs.Topics.{readTopic}
 use Rattle.payload.specs.Datatypes.{datatypeNamed}
 use Rattle.payload.specs.Formats.{isFormat}
 use Rattle.payload.specs.Payloads.{isPayload}
-use Rattle.fields.specs.Fields.{holds}
-use Rattle.description.specs.Description.{rules}
+use Rattle.description.specs.Description.{describe}
 use Rattle.trace.specs.Calls.{checked, readAt, appended, after, event}
 use Rattle.judge.specs.Texts.{unknown, given, yesOrNo, told, eventsText, formText, eventText, usedText}
 
@@ -34,9 +33,9 @@ ofBytes verb b =
 unfoldable pub ofTopic : List ℕ → List ℕ → List ℕ
 ofTopic domain topic = told formText (readTopic domain topic)
 
--- "`description OWNHEX HEX` → `yes` or `refused 15`"
+-- "`description OWNHEX HEX` → `yes` or `refused N PLACE`"
 unfoldable pub ofDescription : List ℕ → List ℕ → List ℕ
-ofDescription own s = told (λ taken. ascii "yes") (require (holds (rules own s)) 15 (gives (tt {0})))
+ofDescription own s = told (λ d. ascii "yes") (describe own s)
 
 -- "`event HEX I`"
 unfoldable pub ofEvent : List ℕ → ℕ → List ℕ

@@ -25,9 +25,14 @@ unfoldable pub yesOrNo : Bool → List ℕ
 yesOrNo true = ascii "yes"
 yesOrNo false = ascii "no"
 
--- "or `refused N`"
+-- numbers, parted by one space
+unfoldable pub numbersText : ℕ → List ℕ → List ℕ
+numbersText n [] = decimalText n
+numbersText n (m ∷ ms) = decimalText n ++ (ascii " " ++ numbersText m ms)
+
+-- "or `refused N`"; paper 02, K1, "Split it, with the byte place": "or `refused N PLACE`"
 unfoldable pub told : {A : Type 0} → (A → List ℕ) → Answer A → List ℕ
-told say (refused n) = ascii "refused " ++ decimalText n
+told say (refused r) = ascii "refused " ++ numbersText (r .number) (r .tells)
 told say (gives a) = say a
 
 -- "→ `events N`"

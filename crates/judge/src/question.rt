@@ -37,8 +37,8 @@ fn of_topic(domain: &[u8], topic: &[u8], out: &mut [u8]) -> usize
 fn of_description(own: &[u8], s: &[u8], out: &mut [u8]) -> usize
     ensures { λ r. ⌜ Adds (now (out .entry)) 0 (ofDescription (now (own .entry)) (now (s .entry))) r (now (out .exit)) ⌝ }
 {
-    let v = description::judge(own, s);
-    say::taken(out, v)
+    let t = description::judge(own, s);
+    say::taken(out, t)
 }
 
 fn of_event(file: &[u8], i: u64, out: &mut [u8]) -> usize

@@ -1,5 +1,5 @@
 // Answers, written into a lent buffer.
-use description::Verdict;
+use faults::Told;
 use text::Place;
 use topic::Topic;
 use trace::Checked;
@@ -15,7 +15,7 @@ ghost use Rattle.lines.specs.Out.{Adds};
 ghost use Rattle.text.specs.Places.{bytesAt};
 ghost use Rattle.topic.specs.Meaning.{meaning};
 ghost use Rattle.trace.specs.Calls.{meaningChecked, meaningWritten, shown};
-ghost use Rattle.description.specs.Meaning.{verdict};
+ghost use Rattle.judge.specs.Parts.{toldText};
 ghost use Rattle.judge.specs.Texts.{unknown, yesOrNo, told, eventsText, also, threeIds, formText, flagText, eventText, usedText};
 
 pub(crate) fn unknown(out: &mut [u8]) -> usize
@@ -40,6 +40,15 @@ pub(crate) fn refused(out: &mut [u8], n: u8) -> usize
     lines::number::write(out, at, n as u64)
 }
 
+fn refused_at(out: &mut [u8], n: u8, place: usize) -> usize
+    ensures { λ r. ⌜ Adds (now (out .entry)) 0 (ascii "refused " ++ (decimalText n ++ (ascii " " ++ decimalText place))) r (now (out .exit)) ⌝ }
+{
+    let at = lines::out::put(out, 0, b"refused ");
+    let next = lines::number::write(out, at, n as u64);
+    let last = lines::out::put(out, next, b" ");
+    lines::number::write(out, last, place as u64)
+}
+
 pub(crate) fn events(out: &mut [u8], c: Checked) -> usize
     ensures { λ r. ⌜ Adds (now (out .entry)) 0 (told eventsText (meaningChecked c)) r (now (out .exit)) ⌝ }
 {
@@ -52,12 +61,12 @@ pub(crate) fn events(out: &mut [u8], c: Checked) -> usize
     }
 }
 
-pub(crate) fn taken(out: &mut [u8], v: Verdict) -> usize
-    ensures { λ r. ⌜ Adds (now (out .entry)) 0 (told (λ t. ascii "yes") (verdict v)) r (now (out .exit)) ⌝ }
+pub(crate) fn taken(out: &mut [u8], t: Told) -> usize
+    ensures { λ r. ⌜ Adds (now (out .entry)) 0 (toldText t) r (now (out .exit)) ⌝ }
 {
-    match v {
-        Verdict::Taken => lines::out::put(out, 0, b"yes"),
-        Verdict::Refused(n) => refused(out, n),
+    match t {
+        Told::Nothing => lines::out::put(out, 0, b"yes"),
+        Told::At(place, n) => refused_at(out, n, place),
     }
 }
 

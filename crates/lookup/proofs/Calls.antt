@@ -4,7 +4,7 @@ use mathlib.Core.Path.{_≡_, refl, sym, ap, _∙_}
 use mathlib.Core.Bool.{Bool, true, false, cond, _&&_}
 use mathlib.Core.List.{List, [], _∷_}
 use lib.ListN.{length}
-use Rattle.answer.specs.Answer.{Answer, refused, gives}
+use Rattle.answer.specs.Answer.{Answer, refused, gives, only}
 use Rattle.text.specs.Ids.{isId}
 use Rattle.memory.specs.State.{Change, state, change}
 use Rattle.memory.proofs.Judge.{tf, ft}
@@ -19,7 +19,7 @@ use Rattle.lookup.specs.Meaning.{Sound, tableOf, openingOf, means}
 use Rattle.lookup.specs.Contract.{answerOf, isTaken, saysTaken, Did, openAnswer, Opened}
 use Rattle.lookup.proofs.Steps as after
 
-pub unsound : (c : Call Message Question) (m : List ℕ) → (Sound m → ⊥) → Did c m m (refused 6)
+pub unsound : (c : Call Message Question) (m : List ℕ) → (Sound m → ⊥) → Did c m m (refused (only 6))
 unsound c m n = record {
   unsound = λ _. refl;
   answered = λ s. absurd (n s);
@@ -90,15 +90,15 @@ module _ (m m′ : List ℕ) (c : Change) (x : Message) (t : Table) (s : Sound m
 
 -- ---- a step back
 
-untaken : (r : Bool) → isTaken (cond r (gives taken) (refused 18)) ≡ false → r ≡ false
+untaken : (r : Bool) → isTaken (cond r (gives taken) (refused (only 18))) ≡ false → r ≡ false
 unfolding isTaken saysTaken
 untaken true e = e
 untaken false e = refl
 
-pub back : (m m′ : List ℕ) (r : Bool) → Sound m → journal.Undone m m′ r → Did stepBack m m′ (cond r (gives taken) (refused 18))
+pub back : (m m′ : List ℕ) (r : Bool) → Sound m → journal.Undone m m′ r → Did stepBack m m′ (cond r (gives taken) (refused (only 18)))
 back m m′ r s u = record {
   unsound = λ n. absurd (n s);
-  answered = λ _. ap (λ (b : Bool). cond b (gives taken) (refused 18)) (u .answered (s .memory)) ∙ sym (after.back-says m);
+  answered = λ _. ap (λ (b : Bool). cond b (gives taken) (refused (only 18))) (u .answered (s .memory)) ∙ sym (after.back-says m);
   sound = λ _. after.undone-sound m m′ (u .changed (s .memory)) s (u .sound (s .memory));
   opening = λ _. after.undone-opening m m′ (u .changed (s .memory));
   moved = λ _. after.undone-means m m′ (u .changed (s .memory)) (openingOf m .domain) (openingOf m .devices);
@@ -109,7 +109,7 @@ back m m′ r s u = record {
 
 -- ---- an opening
 
-pub no-domain : (m domain : List ℕ) (d j : ℕ) → isId domain ≡ false → Opened m domain d j m (refused 5)
+pub no-domain : (m domain : List ℕ) (d j : ℕ) → isId domain ≡ false → Opened m domain d j m (refused (only 5))
 unfolding isTaken openAnswer
 no-domain m domain d j e = record {
   answered = rw e refl;

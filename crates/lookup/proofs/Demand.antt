@@ -4,7 +4,7 @@ use mathlib.Core.Path.{_≡_, sym, ap, _∙_}
 use mathlib.Core.List.{List}
 use mathlib.Core.Bool.{true}
 use lib.ListN.{getD}
-use Rattle.answer.specs.Answer.{Answer, refused, gives}
+use Rattle.answer.specs.Answer.{Answer, refused, gives, only}
 use Rattle.book.specs.Book.{Call, blank, answers, Run}
 use Rattle.rules.specs.Messages.{Message}
 use Rattle.rules.specs.Questions.{Question, Value, taken}
@@ -20,5 +20,5 @@ module _ {before m m′ domain : List ℕ} {d j : ℕ} {a : Answer Value} {calls
   reversible o t run = runs (record { domain = domain; devices = d; depth = j }) (o .sound t) (o .opening t) (o .fresh t) run
 
   -- "and 6 never occurs": none of those answers is it
-  pub never-unsound : Opened before domain d j m a → isTaken a ≡ true → Run (rules domain d) Did m calls said m′ → (i : ℕ) → getD said i (gives taken) ≡ refused 6 → ⊥
+  pub never-unsound : Opened before domain d j m a → isTaken a ≡ true → Run (rules domain d) Did m calls said m′ → (i : ℕ) → getD said i (gives taken) ≡ refused (only 6) → ⊥
   never-unsound o t run i e = no-six domain d j (blank (rules domain d)) calls i (sym (ap (λ (l : List (Answer Value)). getD l i (gives taken)) (reversible o t run)) ∙ e)

@@ -13,7 +13,7 @@ use Rattle.memory.proofs.Lists.{length-map}
 use Rattle.memory.proofs.Theorems.{steps-are}
 use Rattle.journal.specs.Contract as journal
 use Rattle.book.specs.Book.{State, stepBack, steps, fresh, popped, popSays}
-use Rattle.answer.specs.Answer.{refused, gives}
+use Rattle.answer.specs.Answer.{refused, gives, only}
 use Rattle.rules.specs.Table.{Table}
 use Rattle.rules.specs.Questions.{taken, aNumber}
 use Rattle.rules.specs.Rules.{rules}
@@ -81,12 +81,12 @@ module _ (m m′ : List ℕ) (e : state m′ ≡ undone (state m)) where
   unfolding openingOf
   undone-sound s x = record { memory = x; domain = ap (λ (o : Opening). isId (o .domain)) undone-opening ∙ s .domain }
 
-says-by : (d : List ℕ) (n : ℕ) (ts : List Now) → popSays (rules d n) (map tableOf ts) ≡ cond (offered ts) (gives taken) (refused 18)
+says-by : (d : List ℕ) (n : ℕ) (ts : List Now) → popSays (rules d n) (map tableOf ts) ≡ cond (offered ts) (gives taken) (refused (only 18))
 says-by d n [] = refl
 says-by d n (t ∷ ts) = refl
 
 -- the answer to a step back, as the journal says whether one is on offer
-pub back-says : (m : List ℕ) → answerOf m stepBack ≡ cond (offered (state m .past)) (gives taken) (refused 18)
+pub back-says : (m : List ℕ) → answerOf m stepBack ≡ cond (offered (state m .past)) (gives taken) (refused (only 18))
 unfolding means
 back-says m = says-by (openingOf m .domain) (openingOf m .devices) (state m .past)
 

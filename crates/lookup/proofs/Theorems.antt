@@ -5,7 +5,7 @@ use mathlib.Core.Path.{_≡_, sym}
 use mathlib.Core.Bool.{Bool, true, false, cond}
 use mathlib.Core.List.{List}
 use lib.ListN.{length, getD}
-use Rattle.answer.specs.Answer.{Answer, refused, gives}
+use Rattle.answer.specs.Answer.{Answer, refused, gives, only}
 use Rattle.text.specs.Ids.{isId}
 use Rattle.memory.specs.Layout as layout
 use Rattle.memory.specs.State.{Change, state, change, roomOf}
@@ -30,11 +30,11 @@ module _ {before m m′ domain : List ℕ} {d j : ℕ} {a : Answer Value} {calls
   pub reversible : Opened before domain d j m a → isTaken a ≡ true → Run (rules domain d) Did m calls said m′ → said ≡ answers (rules domain d) j (blank (rules domain d)) calls
   reversible = demand.reversible
 
-  pub never-unsound : Opened before domain d j m a → isTaken a ≡ true → Run (rules domain d) Did m calls said m′ → (i : ℕ) → getD said i (gives taken) ≡ refused 6 → ⊥
+  pub never-unsound : Opened before domain d j m a → isTaken a ≡ true → Run (rules domain d) Did m calls said m′ → (i : ℕ) → getD said i (gives taken) ≡ refused (only 6) → ⊥
   never-unsound = demand.never-unsound
 
 -- 6, "memory is not a sound table", and only then: a call that answers 6 found memory that is not sound.
-pub only-unsound : {c : Call Message Question} {m m′ : List ℕ} → Did c m m′ (refused 6) → Sound m → ⊥
+pub only-unsound : {c : Call Message Question} {m m′ : List ℕ} → Did c m m′ (refused (only 6)) → Sound m → ⊥
 only-unsound {c} {m} did s = state-no-six (openingOf m .domain) (openingOf m .devices) (means m) c (sym (did .answered s))
 
 -- The device of a rank is what the room at that place of the order means.
@@ -42,7 +42,7 @@ pub device-at : (m : List ℕ) (i : ℕ) (z : Device) → i < length (means m .n
 device-at = ranks.device-at
 
 -- Memory that is not sound: 6, and nothing changed.
-pub unsound : (c : Call Message Question) (m : List ℕ) → (Sound m → ⊥) → Did c m m (refused 6)
+pub unsound : (c : Call Message Question) (m : List ℕ) → (Sound m → ⊥) → Did c m m (refused (only 6))
 unsound = calls.unsound
 
 -- Sound memory, unchanged: every answer of the rules that is not "taken".
@@ -55,7 +55,7 @@ pub took : (m m′ : List ℕ) (c : Change) (x : Message) (t : Table) → Sound 
 took = calls.took
 
 -- A step back is an undo.
-pub back : (m m′ : List ℕ) (r : Bool) → Sound m → journal.Undone m m′ r → Did stepBack m m′ (cond r (gives taken) (refused 18))
+pub back : (m m′ : List ℕ) (r : Bool) → Sound m → journal.Undone m m′ r → Did stepBack m m′ (cond r (gives taken) (refused (only 18)))
 back = calls.back
 
 -- "steps on offer" are those of the ring.
@@ -66,5 +66,5 @@ steps-says = after.steps-says
 pub opened : (m domain : List ℕ) (d j : ℕ) (m′ : List ℕ) (r : Bool) → isId domain ≡ true → journal.Opened m domain d j m′ r → Opened m domain d j m′ (openAnswer r)
 opened = calls.opened
 
-pub no-domain : (m domain : List ℕ) (d j : ℕ) → isId domain ≡ false → Opened m domain d j m (refused 5)
+pub no-domain : (m domain : List ℕ) (d j : ℕ) → isId domain ≡ false → Opened m domain d j m (refused (only 5))
 no-domain = calls.no-domain

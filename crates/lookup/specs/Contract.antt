@@ -4,7 +4,7 @@ use mathlib.Core.Path.{_≡_}
 use mathlib.Core.List.{List}
 use mathlib.Core.Bool.{Bool, true, false, _&&_}
 use lib.ListN.{length, drop}
-use Rattle.answer.specs.Answer.{Answer, refused, gives}
+use Rattle.answer.specs.Answer.{Answer, refused, gives, only}
 use Rattle.text.specs.Ids.{isId}
 use Rattle.memory.specs.Layout.{size, imageAt}
 use Rattle.journal.specs.Contract.{opens}
@@ -42,7 +42,7 @@ isTaken (gives v) = saysTaken v
 -- A call with its answer, and memory before and after. Unsound memory: 6. Sound memory: the answer is the book's over what memory means; the opening
 -- stays, memory stays sound, and means what the call makes of it. What is not taken changes no byte; its length, and every byte past its size, stay.
 pub record Did (c : Call Message Question) (m m′ : List ℕ) (a : Answer Value) : Type 0 where
-  pub unsound : (Sound m → ⊥) → a ≡ refused 6
+  pub unsound : (Sound m → ⊥) → a ≡ refused (only 6)
   pub answered : Sound m → a ≡ answerOf m c
   pub sound : Sound m → Sound m′
   pub opening : Sound m → openingOf m′ ≡ openingOf m
@@ -58,7 +58,7 @@ isOpenable domain d j size = isId domain && opens (length domain) d j size
 
 unfoldable pub openAnswer : Bool → Answer Value
 openAnswer true = gives taken
-openAnswer false = refused 5
+openAnswer false = refused (only 5)
 
 pub record Opened (m domain : List ℕ) (d j : ℕ) (m′ : List ℕ) (a : Answer Value) : Type 0 where
   pub answered : a ≡ openAnswer (isOpenable domain d j (length m))

@@ -1,44 +1,44 @@
--- No two properties of valid nodes have the same two IDs.
-use Prim.Native.Nat.{ℕ}
+-- No two properties of nodes without fault have the same two IDs, and there are at most 24.
+use Prim.Native.Nat.{ℕ, zero, suc, _+_, _≤_}
+use native.Mathlib.Omega.{arith}
 use mathlib.Core.Path.{_≡_, refl, sym, ap, _∙_}
 use mathlib.Core.Logic.{_⊎_, inl, inr}
 use mathlib.Core.List.{List, [], _∷_, _++_}
-use mathlib.Core.Bool.{Bool, true, false, not}
-use borrow.Author.Tests.{not-true}
-use Rattle.text.specs.Bytes.{eqBytes}
-use Rattle.text.proofs.Bytes.{eqBytes-false}
+use mathlib.Core.Bool.{Bool, true, false}
+use lib.ListN.{length, drop, length-append}
 use Rattle.json.specs.Members.{Member}
-use Rattle.fields.specs.Values.{stringBytes, members, nameOf, all}
-use Rattle.fields.specs.Fields.{holds, field, isTwice, membersIn}
+use Rattle.faults.specs.Faults.{Fault, otherRule}
+use Rattle.faults.proofs.Laws.{both-none}
+use Rattle.fields.specs.Values.{stringBytes, members, nameOf}
+use Rattle.fields.specs.Fields.{field, membersIn, among, comesFirst, entryFaults}
 use Rattle.fields.specs.declared.Field.{Field}
-use Rattle.fields.specs.declared.Field.the-variants.{Absent, One, Twice}
-use Rattle.fields.proofs.Rules.{rule-at, holds-first, holds-second}
-use Rattle.fields.specs.Names as names
-use Rattle.fields.specs.Names.{unnamed, Unlike}
-use Rattle.fields.proofs.Names.{all-both, unlike}
-use Rattle.properties.specs.Property.{Property, propertyRules, propertyAt}
+use Rattle.fields.specs.declared.Field.the-variants.{Absent, First}
+use Rattle.fields.proofs.Names as names
+use Rattle.fields.proofs.Names.{Unnamed, unnamed-none, unnamed-more, Unlike, Firsts, firsts-none, firsts-more, firsts, unlike, among-first, among-rest}
+use Rattle.properties.specs.Property.{Property, propertyFaults, propertyAt}
 use Rattle.properties.specs.Valid.{In, here, later, Differ, Apart, none, more}
+use Rattle.properties.specs.Entries.{propertiesMost}
 use Rattle.properties.proofs.Lists.{in-none, in-append}
 use Rattle.properties.proofs.Order.{apart-append}
 use Rattle.nodes.specs.Names.{properties}
-use Rattle.nodes.specs.Nodes.{idRules, propertyMember, each, nodeRules, nodeMember, propertiesAmong, propertiesOf}
+use Rattle.nodes.specs.Nodes.{propertyMember, each, nodeFaults, nodeMember, namedBy, namedIn, tooMany, nodesFaults, propertiesAmong, propertiesOf}
+use Rattle.nodes.proofs.Valid.{node-entry, node-properties}
+
+pub no-more : (d : ℕ) (ms : List Member) → among (λ m. otherRule (m .name) ∷ []) (drop d ms) ≡ [] → length ms ≤ d
+unfolding among drop
+no-more zero [] h = omega arith
+no-more (suc d) [] h = omega arith
+no-more zero (m ∷ ms) h = let z : _≡_ {A = ℕ} 0 1 = cc in absurd (omega arith)
+no-more (suc d) (m ∷ ms) h = let k = no-more d ms h in omega (arith, k)
 
 module _ (s : List ℕ) where
-  -- an ID once in its object
-  once : (at i : ℕ) (rs : List Bool) → holds (idRules s at i ++ rs) ≡ true → not (isTwice (field s at (stringBytes s i))) ≡ true
-  unfolding idRules
-  once at i rs h = rule-at (idRules s at i) 1 (holds-first (idRules s at i) rs h)
+  property-firsts : (at : ℕ) (ms : List Member) → among (propertyMember s at) ms ≡ [] → Firsts s at ms
+  unfolding propertyMember
+  property-firsts at ms h = firsts s at (λ m. propertyFaults s (m .value)) ms h
 
-  all-once : (at : ℕ) (rest : Member → List Bool) (ms : List Member) → all (λ m. holds (idRules s at (m .name) ++ rest m)) ms ≡ true → all (λ m. not (isTwice (field s at (nameOf s m)))) ms ≡ true
-  unfolding all nameOf
-  all-once at rest [] h = refl
-  all-once at rest (m ∷ ms) h =
-      let k = all-both (λ m. holds (idRules s at (m .name) ++ rest m)) m ms h in
-      rw (once at (m .name) (rest m) (k .0), all) (all-once at rest ms (k .1))
-
-  named-other : {t : List ℕ} (name : List ℕ) (m : Member) → not (eqBytes (nameOf s m) name) ≡ true → t ≡ stringBytes s (m .name) → t ≡ name → ⊥
-  unfolding nameOf
-  named-other name m h e k = eqBytes-false (stringBytes s (m .name)) name (not-true _ h) (sym e ∙ k)
+  node-firsts : (at : ℕ) (ms : List Member) → among (nodeMember s at) ms ≡ [] → Firsts s at ms
+  unfolding nodeMember
+  node-firsts at ms h = firsts s at (λ m. nodeFaults s (m .value)) ms h
 
   -- ---- one node's properties
 
@@ -49,47 +49,77 @@ module _ (s : List ℕ) where
     among-node (m ∷ ms) (here e) = ap (λ (p : Property). p .node) e
     among-node (m ∷ ms) (later i) = among-node ms i
 
-    among-id : {q : Property} (name : List ℕ) (ms : List Member) → unnamed s name ms ≡ true → In q (propertiesAmong s node ms) → q .id ≡ name → ⊥
-    unfolding propertiesAmong propertyAt
-    among-id name [] h i = in-none i
-    among-id name (m ∷ ms) h (here e) = named-other name m (all-both (λ m. not (eqBytes (nameOf s m) name)) m ms h .0) (ap (λ (p : Property). p .id) e)
-    among-id name (m ∷ ms) h (later i) = among-id name ms (all-both (λ m. not (eqBytes (nameOf s m) name)) m ms h .1) i
+    among-id : {q : Property} (name : List ℕ) (ms : List Member) → Unnamed s name ms → In q (propertiesAmong s node ms) → q .id ≡ name → ⊥
+    unfolding propertiesAmong propertyAt nameOf
+    among-id name [] u i = in-none i
+    among-id name (m ∷ ms) (unnamed-more n u) (here e) = λ k. n (sym (ap (λ (p : Property). p .id) e) ∙ k)
+    among-id name (m ∷ ms) (unnamed-more n u) (later i) = among-id name ms u i
 
     among-apart : (ms : List Member) → Unlike s ms → Apart (propertiesAmong s node ms)
     unfolding propertiesAmong propertyAt nameOf
     among-apart [] u = none
     among-apart (m ∷ ms) (names.more h u) = more (λ q i n k. among-id (nameOf s m) ms h i (sym k)) (among-apart ms u)
 
-    node-apart : (f : Field) → each (propertyMember s) s f ≡ true → Apart (propertiesAmong s node (membersIn s f))
-    unfolding each membersIn propertiesAmong propertyMember
+    node-apart : (f : Field) → each (propertyMember s) s f ≡ [] → Apart (propertiesAmong s node (membersIn s f))
+    unfolding each membersIn propertiesAmong
     node-apart Absent h = none
-    node-apart (One k) h = among-apart (members s k) (unlike s k (all-once k (λ m. propertyRules s (m .value)) (members s k) h))
-    node-apart Twice h = none
+    node-apart (First k) h = among-apart (members s k) (unlike s k (property-firsts k (members s k) h))
 
   -- ---- all nodes'
 
-  of-node : {q : Property} (name : List ℕ) (ns : List Member) → unnamed s name ns ≡ true → In q (propertiesOf s ns) → q .node ≡ name → ⊥
-  unfolding propertiesOf
-  of-node name [] h i = in-none i
-  of-node {q} name (m ∷ ns) h i = go (in-append (propertiesAmong s (m .name) (membersIn s (field s (m .value) properties))) (propertiesOf s ns) i) (of-node name ns (all-both (λ m. not (eqBytes (nameOf s m) name)) m ns h .1))
+  of-node : {q : Property} (name : List ℕ) (ns : List Member) → Unnamed s name ns → In q (propertiesOf s ns) → q .node ≡ name → ⊥
+  unfolding propertiesOf nameOf
+  of-node name [] u i = in-none i
+  of-node {q} name (m ∷ ns) (unnamed-more n u) i = go (in-append (propertiesAmong s (m .name) (membersIn s (field s (m .value) properties))) (propertiesOf s ns) i) (of-node name ns u)
     where
       go : In q (propertiesAmong s (m .name) (membersIn s (field s (m .value) properties))) ⊎ In q (propertiesOf s ns) → (In q (propertiesOf s ns) → q .node ≡ name → ⊥) → q .node ≡ name → ⊥
-      go (inl j) f = named-other name m (all-both (λ m. not (eqBytes (nameOf s m) name)) m ns h .0) (among-node (m .name) (membersIn s (field s (m .value) properties)) j)
+      go (inl j) f = λ k. n (sym (among-node (m .name) (membersIn s (field s (m .value) properties)) j) ∙ k)
       go (inr j) f = f j
 
-  of-apart : (at : ℕ) (ns : List Member) → Unlike s ns → all (λ m. holds (nodeMember s at m)) ns ≡ true → Apart (propertiesOf s ns)
-  unfolding propertiesOf nodeMember nodeRules nameOf
+  of-apart : (at : ℕ) (ns : List Member) → Unlike s ns → among (nodeMember s at) ns ≡ [] → Apart (propertiesOf s ns)
+  unfolding propertiesOf nameOf
   of-apart at [] u h = none
   of-apart at (m ∷ ns) (names.more k u) h =
-      let v = all-both (λ m. holds (nodeMember s at m)) m ns h in
       let f = field s (m .value) properties in
       apart-append (propertiesAmong s (m .name) (membersIn s f)) (propertiesOf s ns)
-      (node-apart (m .name) f (rule-at (nodeRules s (m .value)) 5 (holds-second (idRules s at (m .name)) (nodeRules s (m .value)) (v .0))))
-      (of-apart at ns u (v .1))
+      (node-apart (m .name) f (node-properties s (m .value) (node-entry s at m (among-first (nodeMember s at) m ns h) .valid)))
+      (of-apart at ns u (among-rest (nodeMember s at) m ns h))
       (λ p q i j n x. of-node (nameOf s m) ns k j (sym n ∙ among-node (m .name) (membersIn s f) i))
 
-  pub nodes-apart : (f : Field) → each (nodeMember s) s f ≡ true → Apart (propertiesOf s (membersIn s f))
-  unfolding each membersIn propertiesOf nodeMember
+  pub nodes-apart : (f : Field) → nodesFaults s f ≡ [] → Apart (propertiesOf s (membersIn s f))
+  unfolding nodesFaults membersIn propertiesOf
   nodes-apart Absent h = none
-  nodes-apart (One k) h = of-apart k (members s k) (unlike s k (all-once k (λ m. nodeRules s (m .value)) (members s k) h)) h
-  nodes-apart Twice h = none
+  nodes-apart (First k) h =
+      let g = both-none (among (nodeMember s k) (members s k)) (tooMany (namedIn s k (members s k))) h .0 in
+      of-apart k (members s k) (unlike s k (node-firsts k (members s k) g)) g
+
+  -- ---- how many they are
+
+  among-length : (node : ℕ) (ms : List Member) → length (propertiesAmong s node ms) ≡ length ms
+  unfolding propertiesAmong
+  among-length node [] = refl
+  among-length node (m ∷ ms) = ap suc (among-length node ms)
+
+  named-none : (at : ℕ) → 0 ≡ length (namedIn s at [])
+  unfolding namedIn
+  named-none at = refl
+
+  named-first : (at : ℕ) (n : Member) (ns : List Member) → comesFirst s at n ≡ true → length (namedIn s at (n ∷ ns)) ≡ length (membersIn s (field s (n .value) properties)) + length (namedIn s at ns)
+  unfolding namedIn namedBy
+  named-first at n ns e = rw e (length-append (membersIn s (field s (n .value) properties)) (namedIn s at ns))
+
+  named-length : (at : ℕ) (ns : List Member) → Firsts s at ns → length (propertiesOf s ns) ≡ length (namedIn s at ns)
+  unfolding propertiesOf
+  named-length at [] f = named-none at
+  named-length at (n ∷ ns) (firsts-more e f) =
+      let l = membersIn s (field s (n .value) properties) in
+      length-append (propertiesAmong s (n .name) l) (propertiesOf s ns) ∙
+      (ap (λ (k : ℕ). k + length (propertiesOf s ns)) (among-length (n .name) l) ∙
+      (ap (λ (k : ℕ). length l + k) (named-length at ns f) ∙ sym (named-first at n ns e)))
+
+  pub nodes-few : (f : Field) → nodesFaults s f ≡ [] → length (propertiesOf s (membersIn s f)) ≤ propertiesMost
+  unfolding nodesFaults membersIn propertiesOf tooMany
+  nodes-few Absent h = omega arith
+  nodes-few (First k) h =
+      let g = both-none (among (nodeMember s k) (members s k)) (tooMany (namedIn s k (members s k))) h in
+      rw (named-length k (members s k) (node-firsts k (members s k) (g .0))) (no-more propertiesMost (namedIn s k (members s k)) (g .1))

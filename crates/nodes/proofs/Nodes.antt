@@ -1,182 +1,283 @@
--- What each way through the code shows of nodes and their properties.
-use Prim.Native.Nat.{ℕ, _+_, _≤_, _<_}
+-- What each way through the code adds.
+use Prim.Native.Nat.{ℕ, zero, suc, _+_, _≤_, _<_}
 use native.Mathlib.Omega.{arith}
 use mathlib.Core.Path.{_≡_, refl, sym, ap, _∙_, subst}
-use mathlib.Core.List.{List, [], _∷_, _++_}
-use mathlib.Core.Bool.{Bool, true, false, not, _&&_, true≢false, and-false}
-use mathlib.Core.Option.{Option, none, some}
-use lib.ListN.{length}
+use mathlib.Core.List.{List, [], _∷_, _++_, append-assoc, append-nil}
+use mathlib.Core.Bool.{Bool, true, false}
+use lib.ListN.{length, drop}
+use lib.Dec.{ltb}
+use borrow.Author.Tests.{ltb-true, ltb-false, lt-ltb, le-ltb}
 use Rattle.text.specs.Ids.{isId}
 use Rattle.text.proofs.Bytes.{both}
-use Rattle.json.specs.Bytes.{byte, ws}
-use Rattle.json.specs.Members.{Member, memberAt, GotItem}
-use Rattle.json.specs.declared.Item.{Item}
-use Rattle.json.specs.declared.Item.the-variants.{At, Done}
-use Rattle.fields.specs.Values.{stringBytes, isObject, members, nameOf, all}
-use Rattle.fields.specs.Fields.{holds, field, isTwice, membersIn, plainNames}
+use Rattle.json.specs.Members.{Member}
+use Rattle.faults.specs.declared.Told.{Told}
+use Rattle.faults.specs.declared.Told.the-variants.{Nothing, At}
+use Rattle.faults.specs.Faults.{Fault, earlier, least, wrongKind, repeated, otherRule, _otherwise_}
+use Rattle.faults.proofs.Laws.{earlier-assoc, earlier-comm, earlier-none, earlier-nothing, least-join, least-one, at-nothing, rule-holds, rule-broken, join-told}
+use Rattle.fields.specs.Values.{stringBytes, isObject, members, nameOf}
+use Rattle.fields.specs.Fields.{field, fieldIn, isFirst, membersIn, comesFirst, entryFaults, among, ofKind, nameFaults, fieldFaults}
 use Rattle.fields.specs.Known.{knownName, fieldAt, Knows}
+use Rattle.fields.specs.declared.Kind.{Kind}
+use Rattle.fields.specs.declared.Kind.the-variants.{Text, Object}
 use Rattle.fields.specs.declared.Known.{Known}
 use Rattle.fields.specs.declared.Field.{Field}
-use Rattle.fields.specs.declared.Field.the-variants.{Absent, One, Twice}
-use Rattle.fields.proofs.Walk.{Walking, walking-as, at-done, at-item, no-members, first-member, all-done, all-no, all-yes}
-use Rattle.fields.proofs.Rules.{broken, kept, last, some-broken, all-kept}
-use Rattle.properties.specs.Property.{Property, propertyAt}
-use Rattle.properties.specs.Entries.{view, addProperty, addProperties, collected}
-use Rattle.properties.specs.Judged.{Judges}
+use Rattle.fields.specs.declared.Field.the-variants.{Absent, First}
+use Rattle.fields.specs.declared.Owner.the-variants as owner
+use Rattle.properties.specs.Property.{Property, propertyFaults, propertyAt, insert, insertAll}
+use Rattle.properties.specs.Entries.{propertiesMost, content, view, Inserted}
+use Rattle.properties.specs.declared.Entries.{Entries}
 use Rattle.properties.specs.declared.Judged.{Judged}
-use Rattle.properties.proofs.Collection.{put-all-append, collects}
-use Rattle.nodes.specs.Names.{name, type, properties}
-use Rattle.nodes.specs.Nodes.{idRules, each, propertyMember, nodeRules, propertiesAmong, propertiesOf}
-use Rattle.nodes.specs.Parts.{fieldRules}
-use Rattle.nodes.specs.Listed.{Lists}
+use Rattle.properties.specs.Judged.{Judges}
 use Rattle.nodes.specs.declared.Listed.{Listed}
+use Rattle.nodes.specs.Names.{name, type, properties}
+use Rattle.nodes.specs.Nodes.{propertyMember, each, nodeFieldFaults, nodeFaults, nodeMember, namedBy, namedIn, tooMany, nodesFaults, propertiesAmong, propertiesOf}
+use Rattle.nodes.specs.Listed.{Lists}
+use Rattle.nodes.specs.Parts.{itemOf, lists, counted, pastMost, Adds, seenFaults}
+use Rattle.nodes.proofs.Adding.{cross, counted-few, Adding, AddsAll, adds-none, adds-as, adds-then, adds-faults}
 
--- the rule of the ID and then others
-module _ (rules : List Bool) (s : List ℕ) (i : ℕ) {t : List ℕ} {b : Bool} (p : t ≡ stringBytes s i) (q : b ≡ isId t) where
-  pub no-id : b ≡ false → false ≡ holds (isId (stringBytes s i) ∷ rules)
-  no-id e = broken rules (q ∙ ap isId p) e
+-- ---- one property
 
-  pub judge-member : (want : Property) (j : Judged) → b ≡ true → Judges rules want s j → Judges (isId (stringBytes s i) ∷ rules) want s j
-  judge-member want j e v = record { valid = kept rules (q ∙ ap isId p) e (v .valid); declares = v .declares }
+pub within-most : (n i : ℕ) → n < propertiesMost → Nothing ≡ least (ltb n propertiesMost otherwise otherRule i)
+within-most n i h = rule-holds (ltb n propertiesMost) (otherRule i) (lt-ltb n propertiesMost h)
 
-  pub lists-member : {want : Option (List Property)} (r : Listed) → b ≡ true → Lists (holds rules) want s r → Lists (holds (isId (stringBytes s i) ∷ rules)) want s r
-  lists-member r e v = record { valid = kept rules (q ∙ ap isId p) e (v .valid); list = v .list }
+pub beyond-most : (n i : ℕ) → propertiesMost ≤ n → At i 25 ≡ least (ltb n propertiesMost otherwise otherRule i)
+beyond-most n i h = rule-broken (ltb n propertiesMost) (otherRule i) (le-ltb n propertiesMost h)
 
--- ---- a list, if the rules hold
+swap : (a b c : Told) → earlier (earlier a b) c ≡ earlier (earlier a c) b
+swap a b c = earlier-assoc a b c ∙ (ap (earlier a) (earlier-comm b c) ∙ sym (earlier-assoc a c b))
 
-module _ {ok : Bool} {want : Option (List Property)} (s : List ℕ) (r : Listed) where
-  pub lists-no : r .valid ≡ false → false ≡ ok → Lists ok want s r
-  lists-no e p = record { valid = e ∙ p; list = λ t. absurd (true≢false (sym t ∙ e)) }
+-- where nothing is told of the number, there is room
+room : (n i : ℕ) → least (ltb n propertiesMost otherwise otherRule i) ≡ Nothing → n < propertiesMost
+room n i e = both (ltb n propertiesMost)
+    (λ q. ltb-true n propertiesMost q)
+    (λ q. absurd (at-nothing (rule-broken (ltb n propertiesMost) (otherRule i) q ∙ e)))
 
-  pub lists-yes : r .valid ≡ true → true ≡ ok → view s (r .list) ≡ want → Lists ok want s r
-  lists-yes e p q = record { valid = e ∙ p; list = λ t. q }
+past-one : (n : ℕ) (m : Member) → least (pastMost n (m ∷ [])) ≡ least (ltb n propertiesMost otherwise otherRule (m .name))
+unfolding pastMost
+past-one n m = ap least (append-nil (ltb n propertiesMost otherwise otherRule (m .name)))
 
--- ---- IDs
+-- the value of a member, by whether it is the first of its name
+abbrev pub valueFaults : Bool → List Fault → ℕ → List Fault
+valueFaults first fs i = elim first [ true ↦ fs | false ↦ repeated i ∷ [] ]
 
-module _ (s : List ℕ) (at : ℕ) (rest : Member → List Bool) where
-  split-ids : (ms : List Member) → all (λ m. holds (idRules s at (m .name) ++ rest m)) ms ≡ (all (λ m. not (isTwice (field s at (nameOf s m)))) ms && all (λ m. holds (isId (stringBytes s (m .name)) ∷ rest m)) ms)
-  unfolding all idRules holds nameOf
-  split-ids [] = refl
-  split-ids (m ∷ ms) =
-      let none = sym (and-false (all (λ m. not (isTwice (field s at (nameOf s m)))) ms)) in
-      both (isId (stringBytes s (m .name)))
-      (λ a. both (not (isTwice (field s at (stringBytes s (m .name)))))
-      (λ b. both (holds (rest m)) (λ c. rw (a, b, c, all) (split-ids ms)) (λ c. rw (a, b, c, all) none))
-      (λ b. rw (a, b, all)))
-      (λ a. both (not (isTwice (field s at (stringBytes s (m .name))))) (λ b. rw (a, b, all) none) (λ b. rw (a, b, all)))
+module _ (s : List ℕ) (i : ℕ) (fs : List Fault) {want : Property} {j : Judged} {first : Bool} where
+  pub judged-first : first ≡ true → Judges fs want s j → Judges (valueFaults first fs i) want s j
+  judged-first e h = rw e h
 
-  module _ {d : Bool} (p : d ≡ all (λ m. not (isTwice (field s at (nameOf s m)))) (members s at)) {want : Option (List Property)} (r : Listed) where
-    pub lists-alike : d ≡ false → r .valid ≡ false → Lists (all (λ m. holds (idRules s at (m .name) ++ rest m)) (members s at)) want s r
-    lists-alike e v = lists-no s r v (sym (split-ids (members s at) ∙ rw (sym p ∙ e)))
+  pub judged-again : first ≡ false → j .told ≡ At i 24 → Judges (valueFaults first fs i) want s j
+  judged-again e h = rw e (record { told = h ∙ least-one i 24; declares = λ z. absurd (at-nothing (sym h ∙ z)) })
 
-    pub lists-apart : d ≡ true → Lists (all (λ m. holds (isId (stringBytes s (m .name)) ∷ rest m)) (members s at)) want s r → Lists (all (λ m. holds (idRules s at (m .name) ++ rest m)) (members s at)) want s r
-    lists-apart e v = record { valid = v .valid ∙ sym (split-ids (members s at) ∙ rw (sym p ∙ e)); list = v .list }
+-- a member of `properties`, judged with n before it
+module _ (s : List ℕ) (node at i k e n : ℕ) {first : Bool} {p r : Judged} {name past one : Told} where
+  pub member-judged :
+      first ≡ isFirst k (field s at (stringBytes s i)) →
+      Judges (valueFaults first (propertyFaults s k) i) (propertyAt s node i k) s p →
+      name ≡ least (isId (stringBytes s i) otherwise otherRule i) →
+      past ≡ least (ltb n propertiesMost otherwise otherRule i) →
+      one ≡ earlier name past →
+      r .told ≡ earlier one (p .told) →
+      r .entry ≡ p .entry →
+      Judges (propertyMember s at (itemOf i k e) ++ pastMost n (itemOf i k e ∷ [])) (propertyAt s node i k) s r
+  unfolding propertyMember entryFaults comesFirst nameOf pastMost
+  member-judged f j x y t1 t2 q =
+      let value = valueFaults first (propertyFaults s k) i in
+      let ids = isId (stringBytes s i) otherwise otherRule i in
+      let most = ltb n propertiesMost otherwise otherRule i in
+      record {
+        told = t2 ∙ (ap (λ (z : Told). earlier z (p .told)) t1 ∙ (swap name past (p .told) ∙ (join-told (ids ++ value) (most ++ []) (join-told ids value x (j .told)) (y ∙ ap least (sym (append-nil most))) ∙ ap (λ (b : Bool). least ((ids ++ valueFaults b (propertyFaults s k) i) ++ (most ++ []))) f)));
+        declares = λ z. ap (content s) q ∙ j .declares (earlier-nothing one (p .told) (sym t2 ∙ z) .1);
+      }
 
--- put into no properties
-pub lists-all : {ok : Bool} (ps : List Property) (l : Option (List Property)) (s : List ℕ) (r : Listed) → l ≡ some [] → Lists ok (addProperties ps l) s r → Lists ok (collected ps) s r
-lists-all ps l s r e v = record { valid = v .valid; list = λ t. v .list t ∙ ap (addProperties ps) e ∙ collects ps }
+-- put into the list
+module _ (s : List ℕ) (m : Member) (fs : List Fault) {want : Property} {told told′ : Told} {list list′ : Entries} {p : Judged} where
+  pub adds-one : Judges (fs ++ pastMost (list .n) (m ∷ [])) want s p → told′ ≡ earlier told (p .told) → Inserted s (content s (p .entry)) list list′ →
+      Adds fs (m ∷ []) (want ∷ []) s (lists told list) (lists told′ list′)
+  unfolding counted insertAll
+  adds-one j t l =
+      let n = list .n in
+      record {
+        told = t ∙ ap (earlier told) (j .told);
+        count = both (ltb n propertiesMost)
+            (λ q. l .count (ltb-true n propertiesMost q) ∙ rw (q, counted))
+            (λ q. ap (λ (r : Entries). r .n) (l .full (ltb-false n propertiesMost q)) ∙ rw (q, counted));
+        list = λ z.
+            let none = earlier-nothing told (p .told) (sym t ∙ z) .1 in
+            let parts = earlier-nothing (least fs) (least (pastMost n (m ∷ []))) (sym (least-join fs (pastMost n (m ∷ []))) ∙ (sym (j .told) ∙ none)) in
+            l .view (room n (m .name) (sym (past-one n m) ∙ parts .1)) ∙ ap (λ (q : Property). insert q (view s list)) (j .declares none);
+      }
 
--- by the field's case
-module _ (rules : ℕ → Member → List Bool) (add : List Member → List Property) (s : List ℕ) {f : Field} (l : Option (List Property)) (r : Listed) where
-  pub lists-absent : add [] ≡ [] → f ≡ Absent → r .valid ≡ true → view s (r .list) ≡ l → Lists (each rules s f) (addProperties (add (membersIn s f)) l) s r
-  unfolding each membersIn addProperties
-  lists-absent z q e x = rw q (lists-yes s r e refl (x ∙ sym (ap (λ (ps : List Property). addProperties ps l) z)))
+-- ---- the properties of a node
 
-  pub lists-twice : add [] ≡ [] → f ≡ Twice → r .valid ≡ true → view s (r .list) ≡ l → Lists (each rules s f) (addProperties (add (membersIn s f)) l) s r
-  unfolding each membersIn addProperties
-  lists-twice z q e x = rw q (lists-yes s r e refl (x ∙ sym (ap (λ (ps : List Property). addProperties ps l) z)))
+pub among-append : (f : Member → List Fault) (ms ns : List Member) → among f (ms ++ ns) ≡ among f ms ++ among f ns
+unfolding among _++_
+among-append f [] ns = refl
+among-append f (m ∷ ms) ns = ap (λ (l : List Fault). f m ++ l) (among-append f ms ns) ∙ sym (append-assoc (f m) (among f ms) (among f ns))
 
-  pub lists-one : {k : ℕ} → f ≡ One k → Lists (all (λ m. holds (rules k m)) (members s k)) (addProperties (add (members s k)) l) s r → Lists (each rules s f) (addProperties (add (membersIn s f)) l) s r
-  unfolding each membersIn
-  lists-one q v = rw q v
+among-one : (f : Member → List Fault) (m : Member) → f m ≡ among f (m ∷ [])
+unfolding among
+among-one f m = sym (append-nil (f m))
+
+pub properties-append : (s : List ℕ) (node : ℕ) (ms ns : List Member) → propertiesAmong s node (ms ++ ns) ≡ propertiesAmong s node ms ++ propertiesAmong s node ns
+unfolding propertiesAmong _++_
+properties-append s node [] ns = refl
+properties-append s node (m ∷ ms) ns = ap (λ (l : List Property). propertyAt s node (m .name) (m .value) ∷ l) (properties-append s node ms ns)
+
+unfoldable pub ofProperties : (s : List ℕ) (node at : ℕ) → Adding
+unfolding among propertiesAmong
+ofProperties s node at = record {
+  faults = among (propertyMember s at);
+  named = λ ms. ms;
+  declared = propertiesAmong s node;
+  faults-append = among-append (propertyMember s at);
+  named-append = λ ms ns. refl;
+  declared-append = properties-append s node;
+  faults-none = refl;
+  named-none = refl;
+  declared-none = refl;
+}
+
+module _ (s : List ℕ) (node at i k e : ℕ) {a b : Listed} where
+  pub one-property : Adds (propertyMember s at (itemOf i k e)) (itemOf i k e ∷ []) (propertyAt s node i k ∷ []) s a b → AddsAll (ofProperties s node at) (itemOf i k e ∷ []) s a b
+  unfolding ofProperties propertiesAmong
+  one-property h = adds-as s (ap least (among-one (propertyMember s at) (itemOf i k e))) h
+
+module _ (s : List ℕ) (node : ℕ) {f : Field} {a b : Listed} where
+  pub field-none : f ≡ Absent → a ≡ b → Adds (each (propertyMember s) s f) (membersIn s f) (propertiesAmong s node (membersIn s f)) s a b
+  unfolding each membersIn propertiesAmong
+  field-none e q = rw (e, sym q) (adds-none s a)
+
+  pub field-some : (k : ℕ) → f ≡ First k → AddsAll (ofProperties s node k) (members s k) s a b → Adds (each (propertyMember s) s f) (membersIn s f) (propertiesAmong s node (membersIn s f)) s a b
+  unfolding each membersIn ofProperties
+  field-some k e h = rw e h
 
 -- ---- a node
 
-module _ (s : List ℕ) (k : ℕ) (m : Known) (w : Knows s k m) (p : m .plain ≡ true) {b : Bool} (o : b ≡ isObject s k) (t : b ≡ true) where
-  node-rules : holds (fieldRules s (m .seen) ++ (each (propertyMember s) s (fieldAt (m .seen) 13) ∷ [])) ≡ holds (nodeRules s k)
-  unfolding fieldRules nodeRules holds knownName
-  node-rules = rw (w .fields p 0 (omega arith), w .fields p 1 (omega arith), w .fields p 13 (omega arith), sym o ∙ t, sym (w .plain) ∙ p)
+-- one thing more told of a list
+pub adds-also : (s : List ℕ) (fs : List Fault) {t u u′ : Told} {l : Entries} → t ≡ least fs → u′ ≡ earlier u t → Adds fs [] [] s (lists u l) (lists u′ l)
+adds-also s fs p h = adds-faults s fs p refl h refl
 
-  pub node-no : {q : Bool} → q ≡ holds (fieldRules s (m .seen)) → q ≡ false → false ≡ holds (nodeRules s k)
-  node-no x e = some-broken (fieldRules s (m .seen)) (each (propertyMember s) s (fieldAt (m .seen) 13) ∷ []) x e ∙ node-rules
+pub told-of : (s seen : List ℕ) (c : ℕ) (kind : Kind) {f : Field} {t : Told} → f ≡ fieldAt seen c → t ≡ least (fieldFaults kind s f) → t ≡ least (fieldFaults kind s (fieldAt seen c))
+told-of s seen c kind e h = rw (sym e) h
 
-  sees-properties : fieldAt (m .seen) 13 ≡ field s k properties
-  unfolding knownName
-  sees-properties = w .fields p 13 (omega arith)
+pub no-field : (s : List ℕ) (k : ℕ) (t : List ℕ) → isObject s k ≡ false → field s k t ≡ Absent
+unfolding field members fieldIn
+no-field s k t e = rw (e, members)
 
-  pub node-lists : {q : Bool} {f : Field} (add : List Member → List Property) (l : Option (List Property)) (r : Listed) → q ≡ holds (fieldRules s (m .seen)) → q ≡ true → f ≡ fieldAt (m .seen) 13
-      → Lists (each (propertyMember s) s f) (addProperties (add (membersIn s f)) l) s r → Lists (holds (nodeRules s k)) (addProperties (add (membersIn s (field s k properties))) l) s r
-  node-lists add l r x e y v = record {
-    valid = all-kept (fieldRules s (m .seen)) (each (propertyMember s) s (fieldAt (m .seen) 13) ∷ []) x e (last (v .valid ∙ ap (each (propertyMember s) s) y)) ∙ node-rules;
-    list = λ z. v .list z ∙ ap (λ (g : Field). addProperties (add (membersIn s g)) l) (y ∙ sees-properties);
-  }
+abbrev AddsNode : (s : List ℕ) (i k : ℕ) → List Fault → Listed → Listed → Type 0
+AddsNode s i k fs a b = Adds fs (membersIn s (field s k properties)) (propertiesAmong s i (membersIn s (field s k properties))) s a b
 
--- ---- lists that grow with each member
+module _ (s : List ℕ) (i k : ℕ) {told : Told} {list : Entries} where
+  pub node-kind : {told′ : Told} → isObject s k ≡ false → told′ ≡ earlier told (At k 22) → AddsNode s i k (nodeFaults s k) (lists told list) (lists told′ list)
+  unfolding nodeFaults ofKind membersIn propertiesAmong
+  node-kind e h = rw (no-field s k properties e, e) (adds-also s (wrongKind k ∷ []) (least-one k 22) h)
 
-module _ (add : List Member → List Property) (s : List ℕ) (at : ℕ) {b : ℕ} (p : b ≡ byte s at) (l : Option (List Property)) where
-  pub adds-none : add [] ≡ [] → (b ≡ 123 → ⊥) → l ≡ addProperties (add (members s at)) l
-  unfolding addProperties
-  adds-none z n = sym (ap (λ (ps : List Property). addProperties ps l) z) ∙ no-members (λ ms. addProperties (add ms) l) s at p n
+  pub node-fields : {m : Known} {t u v : Told} {f : Field} {b : Listed} → isObject s k ≡ true → Knows owner.Node s k m →
+      t ≡ least (seenFaults s (m .seen)) → u ≡ earlier (m .told) t → v ≡ earlier told u → f ≡ fieldAt (m .seen) 13 →
+      Adds (each (propertyMember s) s f) (membersIn s f) (propertiesAmong s i (membersIn s f)) s (lists v list) b → AddsNode s i k (nodeFaults s k) (lists told list) b
+  unfolding nodeFaults nodeFieldFaults ofKind seenFaults knownName
+  node-fields {m} {t} {u} {v} {f} {b} o w p q x y h =
+      let n = nameFaults owner.Node s k in
+      let g = each (propertyMember s) s (field s k properties) in
+      let v0 : fieldAt (m .seen) 0 ≡ field s k name = w .fields 0 (omega arith) in
+      let v1 : fieldAt (m .seen) 1 ≡ field s k type = w .fields 1 (omega arith) in
+      let v13 : fieldAt (m .seen) 13 ≡ field s k properties = w .fields 13 (omega arith) in
+      let fa = fieldFaults Text s (field s k name) in
+      let fb = fieldFaults Text s (field s k type) in
+      let fc = fieldFaults Object s (field s k properties) in
+      let p′ : t ≡ least (fa ++ (fb ++ fc)) = rw (v0, v1, v13) at p in
+      let h′ : AddsNode s i k g (lists v list) b = subst (λ (z : Field). Adds (each (propertyMember s) s z) (membersIn s z) (propertiesAmong s i (membersIn s z)) s (lists v list) b) (y ∙ v13) h in
+      let r = adds-then s (adds-also s (n ++ (fa ++ (fb ++ fc))) (q ∙ join-told n (fa ++ (fb ++ fc)) (w .told) p′) x) h′ in
+      rw o (adds-as s (ap least (append-assoc n (fa ++ (fb ++ fc)) g ∙ ap (λ (l : List Fault). n ++ l) (append-assoc fa (fb ++ fc) g ∙ ap (λ (l : List Fault). fa ++ l) (append-assoc fb fc g)))) r)
 
-  pub adds-first : {i : ℕ} → b ≡ 123 → i ≡ ws s (at + 1) → i ≤ length s → Walking (memberAt s) (λ ms. addProperties (add ms) l) (length s) i (addProperties (add (members s at)) l)
-  adds-first e q h = first-member (λ ms. addProperties (add ms) l) s at p e q h
+-- ---- nodes
 
-module _ (add : List Member → List Property) (s : List ℕ) (i : ℕ) (l : Option (List Property)) {want : Option (List Property)} (g : Walking (memberAt s) (λ ms. addProperties (add ms) l) (length s) i want) where
-  pub adds-done : add [] ≡ [] → memberAt s i ≡ Done → l ≡ want
-  unfolding addProperties
-  adds-done z q = sym (ap (λ (ps : List Property). addProperties ps l) z) ∙ at-done (memberAt s) (λ ms. addProperties (add ms) l) (length s) i g q
+pub named-append : (s : List ℕ) (at : ℕ) (ms ns : List Member) → namedIn s at (ms ++ ns) ≡ namedIn s at ms ++ namedIn s at ns
+unfolding namedIn _++_
+named-append s at [] ns = refl
+named-append s at (m ∷ ms) ns =
+    let l = namedBy s (comesFirst s at m) (m .value) in
+    ap (λ (r : List Member). l ++ r) (named-append s at ms ns) ∙ sym (append-assoc l (namedIn s at ms) (namedIn s at ns))
 
-  -- the member adds ps
-  pub adds-more : {k e n : ℕ} {l′ : Option (List Property)} (ps : List Property) → GotItem (memberAt s i) i (length s) (At k e n) → ((ms : List Member) → add (record { name = i; value = k; end = e } ∷ ms) ≡ ps ++ add ms)
-      → l′ ≡ addProperties ps l → Walking (memberAt s) (λ ms. addProperties (add ms) l′) (length s) n want
-  adds-more {k} {e} {n} {l′} ps w z x = walking-as (λ ms. addProperties (add ms) l′)
-      (λ ms. ap (addProperties (add ms)) x ∙ sym (put-all-append ps (add ms) l) ∙ ap (λ (qs : List Property). addProperties qs l) (sym (z ms)))
-      (at-item (memberAt s) (λ ms. addProperties (add ms) l) (length s) i g w)
+pub declared-append : (s : List ℕ) (ms ns : List Member) → propertiesOf s (ms ++ ns) ≡ propertiesOf s ms ++ propertiesOf s ns
+unfolding propertiesOf _++_
+declared-append s [] ns = refl
+declared-append s (m ∷ ms) ns =
+    let l = propertiesAmong s (m .name) (membersIn s (field s (m .value) properties)) in
+    ap (λ (r : List Property). l ++ r) (declared-append s ms ns) ∙ sym (append-assoc l (propertiesOf s ms) (propertiesOf s ns))
 
--- ---- a node's properties, and the nodes'
+unfoldable pub ofNodes : (s : List ℕ) (at : ℕ) → Adding
+unfolding among namedIn propertiesOf
+ofNodes s at = record {
+  faults = among (nodeMember s at);
+  named = namedIn s at;
+  declared = propertiesOf s;
+  faults-append = among-append (nodeMember s at);
+  named-append = named-append s at;
+  declared-append = declared-append s;
+  faults-none = refl;
+  named-none = refl;
+  declared-none = refl;
+}
 
-pub among-none : (s : List ℕ) (node : ℕ) → propertiesAmong s node [] ≡ []
-unfolding propertiesAmong
-among-none s node = refl
+-- where something is told, no list is promised
+adds-told : (s : List ℕ) {fs : List Fault} {ms : List Member} {ps : List Property} (qs : List Property) {a b : Listed} → (b .told ≡ Nothing → ⊥) → Adds fs ms ps s a b → Adds fs ms qs s a b
+adds-told s qs n h = record { told = h .told; count = h .count; list = λ e. absurd (n e) }
 
-pub among-more : (s : List ℕ) (node i k e : ℕ) (ms : List Member) → propertiesAmong s node (record { name = i; value = k; end = e } ∷ ms) ≡ (propertyAt s node i k ∷ []) ++ propertiesAmong s node ms
-unfolding propertiesAmong
-among-more s node i k e ms = refl
+adds-nil : (s : List ℕ) {fs : List Fault} {ms : List Member} {ps : List Property} {a b : Listed} → Adds fs ms ps s a b → Adds fs (ms ++ []) (ps ++ []) s a b
+adds-nil s {ms = ms} {ps = ps} h = rw (append-nil ms, append-nil ps) h
 
-pub of-none : (s : List ℕ) → propertiesOf s [] ≡ []
-unfolding propertiesOf
-of-none s = refl
+module _ (s : List ℕ) (at i k e : ℕ) {first : Bool} {name told named : Told} {list : Entries} (f : first ≡ isFirst k (field s at (stringBytes s i)))
+    (x : name ≡ least (isId (stringBytes s i) otherwise otherRule i)) (y : named ≡ earlier told name) where
+  pub member-first : {c : Listed} → first ≡ true → AddsNode s i k (nodeFaults s k) (lists named list) c →
+      Adds (nodeMember s at (itemOf i k e)) (namedIn s at (itemOf i k e ∷ [])) (propertiesOf s (itemOf i k e ∷ [])) s (lists told list) c
+  unfolding nodeMember entryFaults comesFirst nameOf namedIn namedBy propertiesOf
+  member-first q h = rw (sym f ∙ q) (adds-nil s (adds-then s (adds-also s (isId (stringBytes s i) otherwise otherRule i) x y) h))
 
-pub of-more : (s : List ℕ) (i k e : ℕ) (ms : List Member) → propertiesOf s (record { name = i; value = k; end = e } ∷ ms) ≡ propertiesAmong s i (membersIn s (field s k properties)) ++ propertiesOf s ms
-unfolding propertiesOf
-of-more s i k e ms = refl
+  pub member-again : {u : Told} → first ≡ false → u ≡ earlier named (At i 24) →
+      Adds (nodeMember s at (itemOf i k e)) (namedIn s at (itemOf i k e ∷ [])) (propertiesOf s (itemOf i k e ∷ [])) s (lists told list) (lists u list)
+  unfolding nodeMember entryFaults comesFirst nameOf namedIn namedBy propertiesOf
+  member-again q h = rw (sym f ∙ q) (adds-told s _ (λ z. at-nothing (earlier-nothing named (At i 24) (sym h ∙ z) .1)) (adds-then s (adds-also s (isId (stringBytes s i) otherwise otherRule i) x y) (adds-also s (repeated i ∷ []) (least-one i 24) h)))
 
--- one property is put in
-pub put-one : {p q : Property} (l : Option (List Property)) {l′ : Option (List Property)} → p ≡ q → l′ ≡ addProperty p l → l′ ≡ addProperties (q ∷ []) l
-unfolding addProperties
-put-one l e x = x ∙ ap (λ (r : Property). addProperty r l) e
+module _ (s : List ℕ) (at i k e : ℕ) {a b : Listed} where
+  pub one-node : Adds (nodeMember s at (itemOf i k e)) (namedIn s at (itemOf i k e ∷ [])) (propertiesOf s (itemOf i k e ∷ [])) s a b → AddsAll (ofNodes s at) (itemOf i k e ∷ []) s a b
+  unfolding ofNodes
+  one-node h = adds-as s (ap least (among-one (nodeMember s at) (itemOf i k e))) h
 
--- ---- the walk that judges each member and puts in what it declares
+-- ---- all of them
 
-pub record Listing (s : List ℕ) (test : Member → Bool) (add : List Member → List Property) (l : Option (List Property)) (i : ℕ) (ok : Bool) (want : Option (List Property)) : Type 0 where
-  pub judged : Walking (memberAt s) (all test) (length s) i ok
-  pub added : Walking (memberAt s) (λ ms. addProperties (add ms) l) (length s) i want
+full : (n : ℕ) (m : Member) → n + 0 ≡ propertiesMost → counted n (m ∷ []) ≡ n
+unfolding counted
+full n m e = rw (le-ltb n propertiesMost (omega (arith, e)), counted)
 
-module _ (test : Member → Bool) (add : List Member → List Property) (s : List ℕ) (at : ℕ) {b : ℕ} (p : b ≡ byte s at) (l : Option (List Property)) where
-  pub list-none : add [] ≡ [] → (b ≡ 123 → ⊥) → (r : Listed) → r .valid ≡ true → view s (r .list) ≡ l → Lists (all test (members s at)) (addProperties (add (members s at)) l) s r
-  unfolding all
-  list-none z n r e x = lists-yes s r e (no-members (all test) s at p n) (x ∙ adds-none add s at p l z n)
+more : (n : ℕ) (m : Member) → n < propertiesMost → counted n (m ∷ []) ≡ suc n
+unfolding counted
+more n m h = rw (lt-ltb n propertiesMost h, counted)
 
-  pub list-first : {i : ℕ} → b ≡ 123 → i ≡ ws s (at + 1) → i ≤ length s → Listing s test add l i (all test (members s at)) (addProperties (add (members s at)) l)
-  list-first e q h = record { judged = first-member (all test) s at p e q h; added = adds-first add s at p l e q h }
+past-drop : (d n : ℕ) (ms : List Member) → n + d ≡ propertiesMost → pastMost n ms ≡ among (λ m. otherRule (m .name) ∷ []) (drop d ms)
+unfolding pastMost among drop _otherwise_
+past-drop zero n [] e = refl
+past-drop (suc d) n [] e = refl
+past-drop zero n (m ∷ ms) e =
+    rw (le-ltb n propertiesMost (omega (arith, e)))
+    (ap (λ (l : List Fault). otherRule (m .name) ∷ l) (ap (λ (k : ℕ). pastMost k ms) (full n m e) ∙ past-drop zero n ms e))
+past-drop (suc d) n (m ∷ ms) e =
+    rw (lt-ltb n propertiesMost (omega (arith, e)))
+    (ap (λ (k : ℕ). pastMost k ms) (more n m (omega (arith, e))) ∙ past-drop d (suc n) ms (omega (arith, e)))
 
-module _ (test : Member → Bool) (add : List Member → List Property) (s : List ℕ) (i : ℕ) (l : Option (List Property)) {ok : Bool} {want : Option (List Property)} (g : Listing s test add l i ok want) where
-  pub list-done : add [] ≡ [] → memberAt s i ≡ Done → (r : Listed) → r .valid ≡ true → view s (r .list) ≡ l → Lists ok want s r
-  list-done z q r e x = lists-yes s r e (all-done (memberAt s) test (length s) i (g .judged) q) (x ∙ adds-done add s i l (g .added) z q)
+pub past-many : (ms : List Member) → pastMost 0 ms ≡ tooMany ms
+unfolding tooMany
+past-many ms = past-drop propertiesMost 0 ms refl
 
-  module _ {k e n : ℕ} (w : GotItem (memberAt s i) i (length s) (At k e n)) {b : Bool} (p : b ≡ test (record { name = i; value = k; end = e })) where
-    pub list-no : b ≡ false → (r : Listed) → r .valid ≡ false → Lists ok want s r
-    list-no x r y = lists-no s r y (all-no (memberAt s) test (length s) i (g .judged) w p x)
+module _ (s : List ℕ) {f : Field} where
+  pub lists-none : {r : Listed} → f ≡ Absent → r .told ≡ Nothing → r .list .n ≡ 0 → view s (r .list) ≡ [] → Lists (nodesFaults s f) (insertAll (propertiesOf s (membersIn s f)) []) s r
+  unfolding nodesFaults membersIn propertiesOf insertAll least
+  lists-none e t n v = rw e (record { told = t; few = omega (arith, n); list = λ z. v })
 
-    pub list-more : {l′ : Option (List Property)} (ps : List Property) → b ≡ true → ((ms : List Member) → add (record { name = i; value = k; end = e } ∷ ms) ≡ ps ++ add ms) → l′ ≡ addProperties ps l → Listing s test add l′ n ok want
-    list-more ps x z y = record { judged = all-yes (memberAt s) test (length s) i (g .judged) w p x; added = adds-more add s i l (g .added) ps w z y }
+  pub lists-some : (k : ℕ) {a b : Listed} → f ≡ First k → a .told ≡ Nothing → a .list .n ≡ 0 → view s (a .list) ≡ [] →
+      AddsAll (ofNodes s k) (members s k) s a b → Lists (nodesFaults s f) (insertAll (propertiesOf s (membersIn s f)) []) s b
+  unfolding nodesFaults membersIn ofNodes earlier
+  lists-some k {a} {b} e t n v h = rw e (record {
+    told = h .told ∙ (ap (λ (z : Told). earlier z (least (among (nodeMember s k) (members s k) ++ pastMost (a .list .n) (namedIn s k (members s k))))) t ∙ ap (λ (l : List Fault). least (among (nodeMember s k) (members s k) ++ l)) (ap (λ (z : ℕ). pastMost z (namedIn s k (members s k))) n ∙ past-many (namedIn s k (members s k))));
+    few = rw (h .count) (counted-few (a .list .n) (namedIn s k (members s k)) (omega (arith, n)));
+    list = λ z. h .list z ∙ ap (insertAll (propertiesOf s (members s k))) v;
+  })

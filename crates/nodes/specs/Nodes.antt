@@ -1,46 +1,64 @@
--- The nodes of a description (paper 01, "The description"): when they are valid, and the properties that they declare.
+-- The nodes of a description (paper 01, "The description"): their faults, and the properties that they declare.
 use Prim.Native.Nat.{ℕ}
 use mathlib.Core.List.{List, [], _∷_, _++_}
-use mathlib.Core.Bool.{Bool, true, false, not}
-use Rattle.text.specs.Ids.{isId}
+use mathlib.Core.Bool.{Bool, true, false}
+use lib.ListN.{drop}
 use Rattle.json.specs.Members.{Member}
-use Rattle.fields.specs.Values.{stringBytes, isObject, members, all}
-use Rattle.fields.specs.Fields.{holds, field, optional, isTwice, membersIn, plainNames}
+use Rattle.faults.specs.Faults.{Fault, otherRule}
+use Rattle.fields.specs.Values.{isObject, members}
+use Rattle.fields.specs.Fields.{field, membersIn, ofKind, among, fieldFaults, nameFaults, comesFirst, entryFaults}
 use Rattle.fields.specs.declared.Field.{Field}
-use Rattle.fields.specs.declared.Field.the-variants.{Absent, One, Twice}
+use Rattle.fields.specs.declared.Field.the-variants.{Absent, First}
 use Rattle.fields.specs.declared.Kind.the-variants.{Text, Object}
-use Rattle.properties.specs.Property.{Property, propertyRules, propertyAt}
+use Rattle.fields.specs.declared.Owner.the-variants as owner
+use Rattle.properties.specs.Property.{Property, propertyFaults, propertyAt}
+use Rattle.properties.specs.Entries.{propertiesMost}
 use Rattle.nodes.specs.Names.{name, type, properties}
 
--- "object by ID": the member's name, the string at i, is an ID. "No .. ID twice in its object."
-unfoldable pub idRules : List ℕ → ℕ → ℕ → List Bool
-idRules s at i =
-    isId (stringBytes s i) ∷
-    not (isTwice (field s at (stringBytes s i))) ∷ []
+-- every member of the object that a field holds
+unfoldable pub each : (ℕ → Member → List Fault) → List ℕ → Field → List Fault
+each faults s Absent = []
+each faults s (First k) = among (faults k) (members s k)
 
 -- a member of `properties`, the object at `at`
-unfoldable pub propertyMember : List ℕ → ℕ → Member → List Bool
-propertyMember s at m = idRules s at (m .name) ++ propertyRules s (m .value)
+unfoldable pub propertyMember : List ℕ → ℕ → Member → List Fault
+propertyMember s at m = entryFaults s at (propertyFaults s (m .value)) m
 
--- every member of the object that a field holds keeps the rules
-unfoldable pub each : (ℕ → Member → List Bool) → List ℕ → Field → Bool
-each rules s Absent = true
-each rules s (One k) = all (λ m. holds (rules k m)) (members s k)
-each rules s Twice = true
+-- "A node: `name`, `type` strings, `properties` object by ID.": the faults of the fields of the object at k
+unfoldable pub nodeFieldFaults : List ℕ → ℕ → List Fault
+nodeFieldFaults s k =
+    nameFaults owner.Node s k ++
+    (fieldFaults Text s (field s k name) ++
+    (fieldFaults Text s (field s k type) ++
+    (fieldFaults Object s (field s k properties) ++
+    each (propertyMember s) s (field s k properties))))
 
--- "A node: `name`, `type` strings, `properties` object by ID."
-unfoldable pub nodeRules : List ℕ → ℕ → List Bool
-nodeRules s k =
-    isObject s k ∷
-    plainNames s k ∷
-    optional Text s (field s k name) ∷
-    optional Text s (field s k type) ∷
-    optional Object s (field s k properties) ∷
-    each (propertyMember s) s (field s k properties) ∷ []
+-- the faults of the value at k
+unfoldable pub nodeFaults : List ℕ → ℕ → List Fault
+nodeFaults s k = ofKind (isObject s k) k (nodeFieldFaults s k)
 
 -- a member of `nodes`, the object at `at`
-unfoldable pub nodeMember : List ℕ → ℕ → Member → List Bool
-nodeMember s at m = idRules s at (m .name) ++ nodeRules s (m .value)
+unfoldable pub nodeMember : List ℕ → ℕ → Member → List Fault
+nodeMember s at m = entryFaults s at (nodeFaults s (m .value)) m
+
+-- the members of `properties` of the node at k; those of a repeated node are not looked at
+unfoldable pub namedBy : List ℕ → Bool → ℕ → List Member
+namedBy s true k = membersIn s (field s k properties)
+namedBy s false k = []
+
+-- those of these nodes, members of the object at `at`, in document order
+unfoldable pub namedIn : List ℕ → ℕ → List Member → List Member
+namedIn s at [] = []
+namedIn s at (n ∷ ns) = namedBy s (comesFirst s at n) (n .value) ++ namedIn s at ns
+
+-- "At most 24 properties in all.": "the 25th property's ID for too many", and each one past it, whatever its value
+unfoldable pub tooMany : List Member → List Fault
+tooMany ms = among (λ m. otherRule (m .name) ∷ []) (drop propertiesMost ms)
+
+-- the nodes in the object that a field holds
+unfoldable pub nodesFaults : List ℕ → Field → List Fault
+nodesFaults s Absent = []
+nodesFaults s (First k) = among (nodeMember s k) (members s k) ++ tooMany (namedIn s k (members s k))
 
 -- the properties that these members declare, of the node whose ID is the string at `node`
 unfoldable pub propertiesAmong : List ℕ → ℕ → List Member → List Property

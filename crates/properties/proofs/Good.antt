@@ -16,4 +16,4 @@ map-length f [] = refl
 map-length f (x ∷ l) = ap suc (map-length f l)
 
 pub full : (l : Entries) (vs : List Val) → Is (row E.the-type) l vs → length (l .items) ≡ 24
-full l vs h = let o = owed E.the-type EL.the-laws l vs h in sym (map-length _ (l .items)) ∙ o .1 .1 .0 .1 .0 .1
+full l vs h = let o = owed E.the-type EL.the-laws l vs h in sym (map-length _ (l .items)) ∙ o .1 .0 .1 .0 .1

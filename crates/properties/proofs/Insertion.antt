@@ -1,26 +1,22 @@
 -- Laws of the order and of the insertion.
-use Prim.Native.Nat.{ℕ, zero, suc, _+_, _-_, _≤_, _<_}
+use Prim.Native.Nat.{ℕ, suc, _+_, _-_, _≤_, _<_}
 use native.Mathlib.Nat.{sub-zero}
 use native.Mathlib.Numerals.{add-one}
 use native.Mathlib.Omega.{arith}
-use mathlib.Core.Path.{_≡_, refl, sym, ap, _∙_, subst}
+use mathlib.Core.Path.{_≡_, refl, sym, ap, _∙_}
 use mathlib.Core.List.{List, [], _∷_, _++_}
-use mathlib.Core.Bool.{Bool, true, false, _||_, _&&_, cond, true≢false}
-use mathlib.Core.Option.{Option, none, some}
-use lib.ListN.{length, take, drop, getD, set, length-take, length-set}
-use lib.Dec.{leb, ltb}
+use mathlib.Core.Bool.{Bool, true, false, _||_, true≢false}
+use lib.ListN.{length, take, drop, getD, set, length-set}
 use lib.Seq.{drop-cons, take-suc, take-suc-set, drop-set-lt, append-snoc}
-use borrow.Author.Tests.{lt-ltb, le-ltb, leb-true, leb-false}
 use Rattle.text.specs.Bytes.{eqBytes, lessBytes}
-use Rattle.text.proofs.Bytes.{both, at-most, eqBytes-refl}
+use Rattle.text.proofs.Bytes.{both, eqBytes-refl}
 use Rattle.text.proofs.Order.{less-irreflexive}
 use Rattle.fields.specs.Values.{stringBytes}
-use Rattle.fields.proofs.Rules.{or-neither}
 use Rattle.properties.specs.declared.Entry.{Entry}
 use Rattle.properties.specs.declared.Entries.{Entries}
 use Rattle.properties.specs.Property.{Property, isBefore, insert}
 use Rattle.properties.specs.Parts.{stands}
-use Rattle.properties.specs.Entries.{content, contents, view, addProperty}
+use Rattle.properties.specs.Entries.{content, contents, view, Inserted}
 
 -- ---- the order
 
@@ -156,73 +152,19 @@ module _ {given : Type 0} (blank : Entry) (s : List ℕ) (n : ℕ) (e : Entry) (
 
 -- ---- the list as the callers see it
 
--- what a list that shows properties has
-pub record Lists (s : List ℕ) (l : Entries) (ps : List Property) : Type 0 where
-  pub under : l .over ≡ false
-  pub few : l .n ≤ 24
-  pub lists : contents s (take (l .n) (l .items)) ≡ ps
-
-module _ (s : List ℕ) (l : Entries) where
-  pub view-over : l .over ≡ true → view s l ≡ none
-  unfolding view
-  view-over e = rw e
-
-  pub view-many : 24 < l .n → view s l ≡ none
-  unfolding view
-  view-many h = rw (lt-ltb 24 (l .n) h) (go (l .over))
-    where
-      go : (b : Bool) → cond (b || true) none (some (contents s (take (l .n) (l .items)))) ≡ none
-      go true = refl
-      go false = refl
-
-  pub view-some : l .over ≡ false → l .n ≤ 24 → view s l ≡ some (contents s (take (l .n) (l .items)))
-  unfolding view
-  view-some e h = rw (e, le-ltb 24 (l .n) h)
-
-  -- by the test for both
-  module _ {f : Bool} (p : f ≡ (l .over || ltb 24 (l .n))) where
-    pub view-none : f ≡ true → view s l ≡ none
-    unfolding view
-    view-none e = rw (sym p ∙ e)
-
-    pub view-all : f ≡ false → view s l ≡ some (contents s (take (l .n) (l .items)))
-    unfolding view
-    view-all e = rw (sym p ∙ e)
-
-  pub view-lists : {ps : List Property} → view s l ≡ some ps → Lists s l ps
-  view-lists {ps} v = both (l .over)
-      (λ o. let w = view-over o in let z : _≡_ {A = ℕ} 0 1 = cc in absurd (omega arith))
-      (λ o. at-most (l .n) 24
-      (λ h. let w = view-some o h in record { under = o; few = h; lists = cc })
-      (λ h. let w = view-many h in let z : _≡_ {A = ℕ} 0 1 = cc in absurd (omega arith)))
-
-pub view-empty : (s : List ℕ) (l : Entries) → l .over ≡ false → l .n ≡ 0 → view s l ≡ some []
+pub view-empty : (s : List ℕ) (l : Entries) → l .n ≡ 0 → view s l ≡ []
 unfolding view contents
-view-empty s l e q = view-some s l e (omega (arith, q)) ∙ ap (λ (n : ℕ). some (contents s (take n (l .items)))) q
+view-empty s l q = ap (λ (n : ℕ). contents s (take n (l .items))) q
 
--- ---- room for one more
+module _ (s : List ℕ) (e : Entry) (l r : Entries) where
+  pub stays-full : 24 ≤ l .n → r ≡ l → Inserted s (content s e) l r
+  stays-full h q = record { view = λ k. absurd (omega arith); count = λ k. absurd (omega arith); full = λ k. q }
 
-module _ (over : Bool) (n : ℕ) {f : Bool} (p : f ≡ (over || leb 24 n)) (e : f ≡ false) where
-  pub room-over : over ≡ false
-  room-over = or-neither over (leb 24 n) (sym p ∙ e) .0
-
-  pub room-for : n < 24
-  room-for = leb-false 24 n (or-neither over (leb 24 n) (sym p ∙ e) .1)
-
-module _ (s : List ℕ) (e : Entry) (l r : Entries) (k : length (l .items) ≡ 24) where
-  pub put-full : {f : Bool} → f ≡ (l .over || leb 24 (l .n)) → f ≡ true → r .over ≡ true → view s r ≡ addProperty (content s e) (view s l)
-  unfolding addProperty
-  put-full p q b = view-over s r b ∙ both (l .over)
-      (λ o. sym (rw (view-over s l o, addProperty)))
-      (λ o. let h : 24 ≤ l .n = leb-true 24 (l .n) (rw o at (sym p ∙ q)) in
-      at-most (l .n) 24
-      (λ m. sym (rw (view-some s l o m, addProperty) (rw (contents-length s (take (l .n) (l .items)), le-ltb (length (take (l .n) (l .items))) 24 (simp length-take (omega (arith, k)))))))
-      (λ m. sym (rw (view-many s l m, addProperty))))
-
-  pub put-some : {given : Type 0} {items : List Entry} {carry : Entry} {placed : Bool} {j : ℕ} (blank : Entry) → l .over ≡ false → Carrying given s (l .n) e (insert (content s e) (contents s (take (l .n) (l .items)))) items carry placed j → given → l .n ≤ j
-      → r .over ≡ false → r .n ≡ l .n + 1 → r .items ≡ set items (l .n) carry → view s r ≡ addProperty (content s e) (view s l)
-  unfolding addProperty
-  put-some {given} {items} {carry} {placed} {j} blank o w g h b c d =
-      let x : contents s (take (r .n) (r .items)) ≡ insert (content s e) (contents s (take (l .n) (l .items))) = rw (c, d) (carry-done blank s (l .n) e (insert (content s e) (contents s (take (l .n) (l .items)))) items carry placed j w h g) in
-      view-some s r b (omega (arith, c, w .room)) ∙ ap some x
-      ∙ sym (rw (view-some s l o (omega (arith, w .room)), addProperty) (rw (contents-length s (take (l .n) (l .items)), lt-ltb (length (take (l .n) (l .items))) 24 (simp length-take (omega (arith, k, w .room))))))
+  pub is-inserted : {given : Type 0} {items : List Entry} {carry : Entry} {placed : Bool} {j : ℕ} (blank : Entry) → Carrying given s (l .n) e (insert (content s e) (contents s (take (l .n) (l .items)))) items carry placed j → given → l .n ≤ j
+      → r .n ≡ l .n + 1 → r .items ≡ set items (l .n) carry → Inserted s (content s e) l r
+  unfolding view
+  is-inserted {given} {items} {carry} {placed} {j} blank w g h c d = record {
+    view = λ k. rw (c, d) (carry-done blank s (l .n) e (insert (content s e) (contents s (take (l .n) (l .items)))) items carry placed j w h g);
+    count = λ k. c ∙ add-one (l .n);
+    full = λ k. absurd (omega (arith, w .room));
+  }

@@ -1,7 +1,6 @@
 pub mod Insertion
 pub mod Good
 pub mod Rules
-pub mod Collection
 pub mod Lists
 pub mod Order
 pub mod Valid

@@ -4,7 +4,6 @@ use native.Mathlib.Omega.{arith}
 use mathlib.Core.Path.{_≡_, refl, ap, _∙_}
 use mathlib.Core.Logic.{_⊎_, inl, inr}
 use mathlib.Core.List.{List, [], _∷_, _++_}
-use mathlib.Core.Bool.{Bool, true, false}
 use lib.ListN.{length, getD}
 use Rattle.text.proofs.Bytes.{both}
 use Rattle.properties.specs.Property.{Property, isBefore, insert, insertAll}
@@ -86,3 +85,9 @@ pub all-length : (ps qs : List Property) → length (insertAll ps qs) ≡ length
 unfolding insertAll
 all-length [] qs = omega arith
 all-length (p ∷ ps) qs = all-length ps (insert p qs) ∙ omega (arith, insert-length p qs)
+
+-- those of two lists, one after another
+pub insert-append : (ps qs rs : List Property) → insertAll (ps ++ qs) rs ≡ insertAll qs (insertAll ps rs)
+unfolding insertAll
+insert-append [] qs rs = refl
+insert-append (p ∷ ps) qs rs = insert-append ps qs (insert p rs)

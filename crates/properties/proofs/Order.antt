@@ -1,8 +1,7 @@
 -- Properties of which no two have the same two IDs, put in one after another, ascend.
-use Prim.Native.Nat.{ℕ}
 use native.Mathlib.Nat.{add-zero}
 use mathlib.Core.Path.{_≡_, refl, sym, ap, _∙_}
-use mathlib.Core.Logic.{_⊎_, inl, inr, _↔_}
+use mathlib.Core.Logic.{_⊎_, inl, inr}
 use mathlib.Core.List.{List, [], _∷_, _++_}
 use mathlib.Core.Bool.{Bool, true, false, _&&_, _||_}
 use lib.ListN.{length}
@@ -10,7 +9,7 @@ use Rattle.text.specs.Bytes.{eqBytes, lessBytes}
 use Rattle.text.proofs.Bytes.{both, and-both, eqBytes-yes}
 use Rattle.text.proofs.Order.{less-total}
 use Rattle.properties.specs.Property.{Property, isBefore, insert, insertAll}
-use Rattle.properties.specs.Valid.{In, here, later, ascendsFrom, ascends, Arranged, Differ, Apart, none, more}
+use Rattle.properties.specs.Valid.{In, here, later, ascendsFrom, ascends, Arranged, Differ, Apart, more}
 use Rattle.fields.proofs.Rules.{or-neither}
 use Rattle.properties.proofs.Lists.{in-none, in-append, in-insert, put-in, is-in, all-length}
 

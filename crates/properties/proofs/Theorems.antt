@@ -6,10 +6,9 @@ use mathlib.Core.Bool.{true}
 use mathlib.Core.Option.{some}
 use Rattle.text.specs.Ids.{isId}
 use Rattle.fields.specs.Values.{stringBytes, isPlain}
-use Rattle.fields.specs.Fields.{holds}
 use Rattle.payload.specs.Datatypes.{datatypeNamed}
 use Rattle.payload.specs.declared.Datatype.{Datatype}
-use Rattle.properties.specs.Property.{Property, propertyRules, propertyAt, insertAll}
+use Rattle.properties.specs.Property.{Property, propertyFaults, propertyAt, insertAll}
 use Rattle.properties.specs.Valid.{Valid, Apart, Arranged}
 use Rattle.properties.proofs.Valid.{valid-at}
 use Rattle.properties.proofs.Order.{arranged}
@@ -19,8 +18,8 @@ use Rattle.properties.proofs.Plain as plain
 pub datatype-plain : (t : List ℕ) (d : Datatype) → datatypeNamed t ≡ some d → isPlain t ≡ true
 datatype-plain = plain.datatype-plain
 
--- a property that keeps the rules, named by two IDs
-pub valid : (s : List ℕ) (node id k : ℕ) → isId (stringBytes s node) ≡ true → isId (stringBytes s id) ≡ true → holds (propertyRules s k) ≡ true → Valid (propertyAt s node id k)
+-- a property that has no fault, named by two IDs
+pub valid : (s : List ℕ) (node id k : ℕ) → isId (stringBytes s node) ≡ true → isId (stringBytes s id) ≡ true → propertyFaults s k ≡ [] → Valid (propertyAt s node id k)
 valid = valid-at
 
 -- "by node ID, then property ID": properties of which no two have the same two IDs are put in that order, all of them

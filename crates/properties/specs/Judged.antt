@@ -2,13 +2,13 @@
 use Prim.Native.Nat.{ℕ}
 use mathlib.Core.Path.{_≡_}
 use mathlib.Core.List.{List}
-use mathlib.Core.Bool.{Bool, true}
-use Rattle.fields.specs.Fields.{holds}
+use Rattle.faults.specs.Faults.{Fault, least}
+use Rattle.faults.specs.declared.Told.the-variants.{Nothing}
 use Rattle.properties.specs.declared.Judged.{Judged}
 use Rattle.properties.specs.Property.{Property}
 use Rattle.properties.specs.Entries.{content}
 
--- whether the rules hold; and if so, what the property declares
-pub record Judges (rules : List Bool) (want : Property) (s : List ℕ) (j : Judged) : Type 0 where
-  pub valid : j .valid ≡ holds rules
-  pub declares : j .valid ≡ true → content s (j .entry) ≡ want
+-- what is told of its faults; and if there is none, what the property declares
+pub record Judges (faults : List Fault) (want : Property) (s : List ℕ) (j : Judged) : Type 0 where
+  pub told : j .told ≡ least faults
+  pub declares : j .told ≡ Nothing → content s (j .entry) ≡ want

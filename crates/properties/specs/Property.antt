@@ -1,14 +1,16 @@
--- A property of a description (paper 01, "The description"): when its object is valid, what it declares, and the order of properties.
+-- A property of a description (paper 01, "The description"): the faults of its object, what it declares, and the order of properties.
 use Prim.Native.Nat.{ℕ}
-use mathlib.Core.List.{List, [], _∷_}
+use mathlib.Core.List.{List, [], _∷_, _++_}
 use mathlib.Core.Bool.{Bool, true, false, _&&_, _||_}
 use mathlib.Core.Option.{Option, none, some}
 use Rattle.text.specs.Bytes.{eqBytes, lessBytes}
 use Rattle.fields.specs.Values.{stringBytes, isStringAt, isObject, isPlain}
-use Rattle.fields.specs.Fields.{field, optional, textIn, flagIn, plainNames}
+use Rattle.faults.specs.Faults.{Fault, missing, otherRule, _otherwise_}
+use Rattle.fields.specs.Fields.{field, textIn, flagIn, ofKind, fieldFaults, closeAt, nameFaults}
 use Rattle.fields.specs.declared.Field.{Field}
-use Rattle.fields.specs.declared.Field.the-variants.{Absent, One, Twice}
+use Rattle.fields.specs.declared.Field.the-variants.{Absent, First}
 use Rattle.fields.specs.declared.Kind.the-variants.{Text, Flag}
+use Rattle.fields.specs.declared.Owner.the-variants as owner
 use Rattle.payload.specs.Datatypes.{datatypeNamed}
 use Rattle.payload.specs.Formats.{keptFormat}
 use Rattle.payload.specs.declared.Datatype.{Datatype}
@@ -18,36 +20,44 @@ use Rattle.properties.specs.Names.{datatype, name, unit, format, settabl
 -- "`datatype` (required, one of the nine above)": the datatype that a field names
 unfoldable pub datatypeIn : List ℕ → Field → Option Datatype
 datatypeIn s Absent = none
-datatypeIn s (One k) = elim (isStringAt s k) [ true ↦ datatypeNamed (stringBytes s k) | false ↦ none ]
-datatypeIn s Twice = none
+datatypeIn s (First k) = elim (isStringAt s k) [ true ↦ datatypeNamed (stringBytes s k) | false ↦ none ]
 
-unfoldable pub isKnown : Option Datatype → Bool
-isKnown none = false
-isKnown (some d) = true
+unfoldable pub isDatatype : Option Datatype → Bool
+isDatatype none = false
+isDatatype (some d) = true
 
--- "House rule: no backslash in .. a kept `format`"
-unfoldable pub plainText : Option (List ℕ) → Bool
-plainText none = false
-plainText (some t) = isPlain t
+-- of the property whose object is at `at`
+unfoldable pub datatypeFaults : List ℕ → ℕ → Field → List Fault
+datatypeFaults s at Absent = missing (closeAt s at) ∷ []
+datatypeFaults s at (First k) = ofKind (isStringAt s k) k (isDatatype (datatypeNamed (stringBytes s k)) otherwise otherRule k)
 
--- the format, given or not, is valid for the datatype
-unfoldable pub formatFits : Option Datatype → Option (List ℕ) → Bool
-formatFits none given = true
-formatFits (some d) given = plainText (keptFormat d given)
+-- what is kept of a format, nothing where it is not valid. "House rule: no backslash in .. a kept `format`"
+unfoldable pub fitsDatatype : Option (List ℕ) → Bool
+fitsDatatype none = false
+fitsDatatype (some t) = isPlain t
+
+-- the format, by the property's datatype: "a required field missing, an enum's or colour's format included (place of the object's closing brace)"; where
+-- the datatype is missing or bad, its kind alone is judged
+unfoldable pub formatFaults : List ℕ → ℕ → Option Datatype → Field → List Fault
+formatFaults s at none f = fieldFaults Text s f
+formatFaults s at (some d) Absent = fitsDatatype (keptFormat d none) otherwise missing (closeAt s at)
+formatFaults s at (some d) (First k) = ofKind (isStringAt s k) k (fitsDatatype (keptFormat d (some (stringBytes s k))) otherwise otherRule k)
 
 -- "A property: `datatype` (required, one of the nine above), `name`, `unit`, `format` strings, `settable` (default false), `retained`
--- (default true) booleans." "No known field .. twice in its object." "House rule: no backslash in a field name of these objects"
-unfoldable pub propertyRules : List ℕ → ℕ → List Bool
-propertyRules s k =
-    isObject s k ∷
-    plainNames s k ∷
-    isKnown (datatypeIn s (field s k datatype)) ∷
-    optional Text s (field s k name) ∷
-    optional Text s (field s k unit) ∷
-    optional Text s (field s k format) ∷
-    formatFits (datatypeIn s (field s k datatype)) (textIn s (field s k format)) ∷
-    optional Flag s (field s k settable) ∷
-    optional Flag s (field s k retained) ∷ []
+-- (default true) booleans.": the faults of the fields of the object at k
+unfoldable pub propertyFieldFaults : List ℕ → ℕ → List Fault
+propertyFieldFaults s k =
+    nameFaults owner.Property s k ++
+    (datatypeFaults s k (field s k datatype) ++
+    (fieldFaults Text s (field s k name) ++
+    (fieldFaults Text s (field s k unit) ++
+    (formatFaults s k (datatypeIn s (field s k datatype)) (field s k format) ++
+    (fieldFaults Flag s (field s k settable) ++
+    fieldFaults Flag s (field s k retained))))))
+
+-- the faults of the value at k
+unfoldable pub propertyFaults : List ℕ → ℕ → List Fault
+propertyFaults s k = ofKind (isObject s k) k (propertyFieldFaults s k)
 
 -- Paper 01, "The table": a property is named by its node's ID and its own, "with its datatype, kept format and two flags"
 pub record Property : Type 0 where

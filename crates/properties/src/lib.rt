@@ -1,24 +1,35 @@
 // The properties that a description declares, in the order of node ID and property ID. Answers are right if the table of ends is.
+use faults::MISSING;
+use faults::OTHER_RULE;
+use faults::Told;
+use faults::WRONG_KIND;
 use fields::Field;
 use fields::Kind;
+use fields::Known;
+use fields::Owner;
 use payload::Datatype;
 use payload::Format;
 use payload::Named;
 ghost use mathlib.Core.Path.{_≡_};
-ghost use mathlib.Core.Bool.{_||_, false};
+ghost use mathlib.Core.Bool.{_||_};
 ghost use mathlib.Core.List.{List, []};
-ghost use Prim.Native.Nat.{ℕ};
-ghost use lib.Dec.{leb};
 ghost use mathlib.Core.Option.{some};
+ghost use Rattle.fields.specs.declared.Field.the-variants.{Absent, First};
+ghost use Prim.Native.Nat.{ℕ};
+ghost use Rattle.faults.specs.Faults.{least};
 ghost use Rattle.payload.specs.Datatypes.{named};
 ghost use Rattle.payload.specs.Formats.{keptBytes};
-ghost use Rattle.fields.specs.Fields.{textIn, holds};
 ghost use Rattle.json.specs.Ends.{Ends};
 ghost use Rattle.fields.specs.Values.{stringBytes};
-ghost use Rattle.properties.specs.Property.{datatypeIn, plainText, textOf, propertyRules, propertyAt};
-ghost use Rattle.properties.specs.Parts.{stands, isOne, textRules, flagRules, otherRules, propertyOf};
+ghost use Rattle.properties.specs.Property.{fitsDatatype, typeOf, propertyFieldFaults, propertyFaults, propertyAt};
+ghost use Rattle.fields.specs.Known.{Knows};
+ghost use Rattle.fields.specs.declared.Owner.the-variants as owner;
+ghost use Rattle.properties.specs.Parts.{stands, textFaults, flagFaults, ReadsType, ReadsFormat};
 ghost use Rattle.properties.specs.Judged.{Judges};
-ghost use Rattle.properties.specs.Entries.{content, view, addProperty};
+ghost use Rattle.properties.specs.Entries.{content, view, Inserted};
+
+// The most properties that a description may have.
+pub const MOST: usize = 24;
 
 // A property: the places of its node's ID and its own, strings in the text, and what it declares.
 pub struct Entry {
@@ -31,17 +42,27 @@ pub struct Entry {
     pub retained: bool,
 }
 
-// The first `n` of `items`; or there were too many.
+// The first `n` of `items`.
 pub struct Entries {
-    pub over: bool,
     pub n: usize,
-    pub items: [Entry; 24],
+    pub items: [Entry; MOST],
 }
 
-// A property's object judged: whether it is valid, and then what it declares.
+// A property's object judged: what is told of its faults, and if there is none, what it declares.
 pub struct Judged {
-    pub valid: bool,
+    pub told: Told,
     pub entry: Entry,
+}
+
+// A property's datatype, as far as it is named, and its format, as far as it is kept, with what is told of their faults.
+pub struct TypeRead {
+    pub told: Told,
+    pub named: Named,
+}
+
+pub struct FormatRead {
+    pub told: Told,
+    pub kept: Format,
 }
 
 // Whether the property with these two IDs, the first at `a`, stands before the one whose IDs are at `c` and `d`.
@@ -80,48 +101,40 @@ fn takes_place(
     is_before(s, a, node, id, c, d, ends)
 }
 
-// The list of no properties.
-pub fn empty() -> Entries
-    ensures { λ r. ⌜ ((s : List ℕ) → view s r ≡ some []) ⌝ }
+// An entry that declares nothing, for the property with these IDs.
+pub fn blank(node: usize, id: usize) -> Entry
+    ensures { λ r. ⌜ (r .node ≡ node) × (r .id ≡ id) ⌝ }
 {
-    let e = Entry {
-        node: 0,
-        id: 0,
+    Entry {
+        node: node,
+        id: id,
         datatype: Datatype::String,
         format: Field::Absent,
         kept: Format::NotKept,
         settable: false,
         retained: false,
-    };
+    }
+}
+
+// The list of no properties.
+pub fn empty() -> Entries
+    ensures { λ r. ⌜ ((s : List ℕ) → view s r ≡ []) × (r .n ≡ 0) ⌝ }
+{
+    let e = blank(0, 0);
     Entries {
-        over: false,
         n: 0,
-        items: [e; 24],
+        items: [e; MOST],
     }
 }
 
-fn is_full(over: bool, n: usize) -> bool
-    ensures { λ r. ⌜ r ≡ (over || leb 24 n) ⌝ }
-{
-    if over {
-        return true;
-    }
-    n >= 24
-}
-
-// The list with one more, in its place.
+// The list with one more, in its place; a full one stays as it is.
 pub fn insert(s: &[u8], e: Entry, l: Entries, ends: &[u16]) -> Entries
-    ensures { λ r. ⌜ (Ends (now (s .entry)) (now (ends .entry)) → view (now (s .entry)) r ≡ addProperty (content (now (s .entry)) e) (view (now (s .entry)) l)) ⌝ }
+    ensures { λ r. ⌜ (Ends (now (s .entry)) (now (ends .entry)) → Inserted (now (s .entry)) (content (now (s .entry)) e) l r) ⌝ }
 {
-    let over = l.over;
     let n = l.n;
     let mut items = l.items;
-    if is_full(over, n) {
-        return Entries {
-            over: true,
-            n: n,
-            items: items,
-        };
+    if n >= MOST {
+        return l;
     }
     let node = fields::string_bytes_by(s, e.node, ends);
     let id = fields::string_bytes_by(s, e.id, ends);
@@ -141,31 +154,44 @@ pub fn insert(s: &[u8], e: Entry, l: Entries, ends: &[u16]) -> Entries
     }
     items[n] = carry;
     Entries {
-        over: false,
         n: n + 1,
         items: items,
     }
 }
 
-// The datatype that a field names.
-fn datatype_in(s: &[u8], f: Field, ends: &[u16]) -> Named
-    ensures { λ r. ⌜ (Ends (now (s .entry)) (now (ends .entry)) → named r ≡ datatypeIn (now (s .entry)) f) ⌝ }
+// The datatype that a field names, of the property whose object is at `at`.
+fn datatype_of(s: &[u8], at: usize, f: Field, ends: &[u16]) -> TypeRead
+    ensures { λ r. ⌜ (Ends (now (s .entry)) (now (ends .entry)) → ReadsType (now (s .entry)) at f r) ⌝ }
 {
-    match f {
-        Field::Absent => Named::Unknown,
-        Field::One(k) => {
-            if fields::is_string(s, k) {
-                return payload::read_datatype(fields::string_bytes_by(s, k, ends));
-            }
-            Named::Unknown
-        }
-        Field::Twice => Named::Unknown,
+    let Field::First(value) = f else {
+        let close = fields::close_of(s, at, ends);
+        return TypeRead {
+            told: Told::At(close, MISSING),
+            named: Named::Unknown,
+        };
+    };
+    if !fields::is_string(s, value) {
+        return TypeRead {
+            told: Told::At(value, WRONG_KIND),
+            named: Named::Unknown,
+        };
+    }
+    let name = payload::read_datatype(fields::string_bytes_by(s, value, ends));
+    match name {
+        Named::Unknown => TypeRead {
+            told: Told::At(value, OTHER_RULE),
+            named: name,
+        },
+        Named::Known(_) => TypeRead {
+            told: Told::Nothing,
+            named: name,
+        },
     }
 }
 
-// Whether what is kept of the format `t` has no backslash.
-fn is_plain_kept(t: &[u8], kept: Format) -> bool
-    ensures { λ r. ⌜ r ≡ plainText (keptBytes (now (t .entry)) kept) ⌝ }
+// Whether the format `t` is kept, by what is kept of it: it is valid and what is kept has no backslash.
+fn fits_datatype(t: &[u8], kept: Format) -> bool
+    ensures { λ r. ⌜ r ≡ fitsDatatype (keptBytes (now (t .entry)) kept) ⌝ }
 {
     match kept {
         Format::Bad => false,
@@ -176,127 +202,148 @@ fn is_plain_kept(t: &[u8], kept: Format) -> bool
     }
 }
 
-// The format that a field gives, or the empty string.
-fn format_in<'a>(s: &'a [u8], f: Field, ends: &[u16]) -> &'a [u8]
-    ensures { λ r. ⌜ (Ends (now (s .entry)) (now (ends .entry)) → now r ≡ textOf (textIn (now (s .entry)) f)) ⌝ }
+// The format that stands at `place`, of a property of datatype d.
+fn given_format(s: &[u8], d: Datatype, place: usize, ends: &[u16]) -> FormatRead
+    ensures { λ r. ⌜ (Ends (now (s .entry)) (now (ends .entry)) → (at : ℕ) → ReadsFormat (now (s .entry)) at (some d) (First place) r) ⌝ }
 {
-    match f {
-        Field::Absent => &s[..0],
-        Field::One(k) => fields::string_bytes_by(s, k, ends),
-        Field::Twice => &s[..0],
+    if !fields::is_string(s, place) {
+        return FormatRead {
+            told: Told::At(place, WRONG_KIND),
+            kept: Format::NotKept,
+        };
+    }
+    let t = fields::string_bytes_by(s, place, ends);
+    let kept = payload::judge_format(d, true, t);
+    if !fits_datatype(t, kept) {
+        return FormatRead {
+            told: Told::At(place, OTHER_RULE),
+            kept: kept,
+        };
+    }
+    FormatRead {
+        told: Told::Nothing,
+        kept: kept,
     }
 }
 
-fn is_one(f: Field) -> bool
-    ensures { λ r. ⌜ r ≡ isOne f ⌝ }
+// What is kept where no format is given to the property of datatype d whose object is at `at`.
+fn no_format(s: &[u8], at: usize, d: Datatype, ends: &[u16]) -> FormatRead
+    ensures { λ r. ⌜ (Ends (now (s .entry)) (now (ends .entry)) → ReadsFormat (now (s .entry)) at (some d) Absent r) ⌝ }
 {
-    match f {
-        Field::Absent => false,
-        Field::One(_) => true,
-        Field::Twice => false,
+    let kept = payload::judge_format(d, false, &s[..0]);
+    if !fits_datatype(&s[..0], kept) {
+        let brace = fields::close_of(s, at, ends);
+        return FormatRead {
+            told: Told::At(brace, MISSING),
+            kept: kept,
+        };
+    }
+    FormatRead {
+        told: Told::Nothing,
+        kept: kept,
     }
 }
 
-// A property that breaks a rule.
-pub fn refused() -> Judged
-    ensures { λ r. ⌜ r .valid ≡ false ⌝ }
+// The format of the property whose object is at `at`, by its datatype.
+fn format_of(s: &[u8], at: usize, name: Named, f: Field, ends: &[u16]) -> FormatRead
+    ensures { λ r. ⌜ (Ends (now (s .entry)) (now (ends .entry)) → ReadsFormat (now (s .entry)) at (named name) f r) ⌝ }
 {
-    let e = Entry {
-        node: 0,
-        id: 0,
-        datatype: Datatype::String,
-        format: Field::Absent,
-        kept: Format::NotKept,
-        settable: false,
-        retained: false,
+    let Named::Known(d) = name else {
+        return FormatRead {
+            told: fields::field_told(s, f, Kind::Text, ends),
+            kept: Format::NotKept,
+        };
     };
-    Judged {
-        valid: false,
-        entry: e,
+    match f {
+        Field::Absent => no_format(s, at, d, ends),
+        Field::First(k) => given_format(s, d, k, ends),
     }
 }
 
-// Whether the fields that are strings are so.
-fn has_texts(s: &[u8], seen: &[usize; 32], ends: &[u16]) -> bool
-    ensures { λ r. ⌜ (Ends (now (s .entry)) (now (ends .entry)) → r ≡ holds (textRules (now (s .entry)) (now (seen .entry)))) ⌝ }
+// What is told of the fields `name` and `unit`.
+fn texts_told(s: &[u8], seen: &[usize; 16], ends: &[u16]) -> Told
+    ensures { λ r. ⌜ (Ends (now (s .entry)) (now (ends .entry)) → r ≡ least (textFaults (now (s .entry)) (now (seen .entry)))) ⌝ }
 {
-    if !fields::is_optional(s, fields::field_at(seen, fields::NAME), Kind::Text, ends) {
-        return false;
-    }
-    if !fields::is_optional(s, fields::field_at(seen, fields::UNIT), Kind::Text, ends) {
-        return false;
-    }
-    fields::is_optional(s, fields::field_at(seen, fields::FORMAT), Kind::Text, ends)
+    let name = fields::field_told(s, fields::field_at(seen, fields::NAME), Kind::Text, ends);
+    let unit = fields::field_told(s, fields::field_at(seen, fields::UNIT), Kind::Text, ends);
+    faults::earlier(name, unit)
 }
 
-// Whether the fields that are booleans are so.
-fn has_flags(s: &[u8], seen: &[usize; 32], ends: &[u16]) -> bool
-    ensures { λ r. ⌜ (Ends (now (s .entry)) (now (ends .entry)) → r ≡ holds (flagRules (now (s .entry)) (now (seen .entry)))) ⌝ }
+// What is told of the fields `settable` and `retained`.
+fn flags_told(s: &[u8], seen: &[usize; 16], ends: &[u16]) -> Told
+    ensures { λ r. ⌜ (Ends (now (s .entry)) (now (ends .entry)) → r ≡ least (flagFaults (now (s .entry)) (now (seen .entry)))) ⌝ }
 {
-    if !fields::is_optional(
+    let settable = fields::field_told(
         s,
         fields::field_at(seen, fields::SETTABLE),
         Kind::Flag,
         ends,
-    ) {
-        return false;
-    }
-    fields::is_optional(
+    );
+    let retained = fields::field_told(
         s,
         fields::field_at(seen, fields::RETAINED),
         Kind::Flag,
         ends,
-    )
+    );
+    faults::earlier(settable, retained)
 }
 
-// The property of datatype `d` with these fields, named by the strings at `node` and `id`: the rules of the other fields, and what it declares.
-fn finish(s: &[u8], node: usize, id: usize, d: Datatype, seen: &[usize; 32], ends: &[u16]) -> Judged
-    ensures { λ r. ⌜ (Ends (now (s .entry)) (now (ends .entry)) → Judges (otherRules (now (s .entry)) (now (seen .entry)) d) (propertyOf (now (s .entry)) node id (now (seen .entry)) d) (now (s .entry)) r) ⌝ }
+fn type_of(name: Named) -> Datatype
+    ensures { λ r. ⌜ r ≡ typeOf (named name) ⌝ }
 {
-    if !has_texts(s, seen, ends) {
-        return refused();
+    match name {
+        Named::Unknown => Datatype::String,
+        Named::Known(d) => d,
     }
-    let f = fields::field_at(seen, fields::FORMAT);
-    let t = format_in(s, f, ends);
-    let kept = payload::judge_format(d, is_one(f), t);
-    if !is_plain_kept(t, kept) {
-        return refused();
-    }
-    if !has_flags(s, seen, ends) {
-        return refused();
-    }
-    let settable = fields::flag_in(s, fields::field_at(seen, fields::SETTABLE), false);
-    let retained = fields::flag_in(s, fields::field_at(seen, fields::RETAINED), true);
+}
+
+// The property whose object is at `k` and has these fields, named by the strings at `n` and `i`.
+fn property_by(s: &[u8], n: usize, i: usize, k: usize, m: Known, ends: &[u16]) -> Judged
+    ensures { λ r. ⌜ (Ends (now (s .entry)) (now (ends .entry)) → Knows owner.Property (now (s .entry)) k m → Judges (propertyFieldFaults (now (s .entry)) k) (propertyAt (now (s .entry)) n i k) (now (s .entry)) r) ⌝ }
+{
+    let seen = m.seen;
+    let names = m.told;
+    let d = datatype_of(s, k, fields::field_at(&seen, fields::DATATYPE), ends);
+    let name = d.named;
+    let typed = d.told;
+    let given = fields::field_at(&seen, fields::FORMAT);
+    let f = format_of(s, k, name, given, ends);
+    let kept = f.kept;
+    let formed = f.told;
     let e = Entry {
-        node: node,
-        id: id,
-        datatype: d,
-        format: f,
+        node: n,
+        id: i,
+        datatype: type_of(name),
+        format: given,
         kept: kept,
-        settable: settable,
-        retained: retained,
+        settable: fields::flag_in(s, fields::field_at(&seen, fields::SETTABLE), false),
+        retained: fields::flag_in(s, fields::field_at(&seen, fields::RETAINED), true),
     };
+    let first = faults::earlier(names, typed);
+    let second = faults::earlier(texts_told(s, &seen, ends), formed);
+    let third = faults::earlier(second, flags_told(s, &seen, ends));
     Judged {
-        valid: true,
+        told: faults::earlier(first, third),
         entry: e,
     }
 }
 
 // The property whose object is at `k`, named by the strings at `node` and `id`.
 pub fn property_at(s: &[u8], node: usize, id: usize, k: usize, ends: &[u16]) -> Judged
-    ensures { λ r. ⌜ (Ends (now (s .entry)) (now (ends .entry)) → Judges (propertyRules (now (s .entry)) k) (propertyAt (now (s .entry)) node id k) (now (s .entry)) r) ⌝ }
+    ensures { λ r. ⌜ (Ends (now (s .entry)) (now (ends .entry)) → Judges (propertyFaults (now (s .entry)) k) (propertyAt (now (s .entry)) node id k) (now (s .entry)) r) ⌝ }
 {
     if !fields::is_object(s, k) {
-        return refused();
+        return Judged {
+            told: Told::At(k, WRONG_KIND),
+            entry: blank(node, id),
+        };
     }
-    let m = fields::known_fields(s, k, ends);
-    let plain = m.plain;
-    let seen = m.seen;
-    if !plain {
-        return refused();
-    }
-    match datatype_in(s, fields::field_at(&seen, fields::DATATYPE), ends) {
-        Named::Unknown => refused(),
-        Named::Known(d) => finish(s, node, id, d, &seen, ends),
-    }
+    property_by(
+        s,
+        node,
+        id,
+        k,
+        fields::known_fields(Owner::Property, s, k, ends),
+        ends,
+    )
 }

@@ -7,7 +7,7 @@ use mathlib.Core.List.{List, [], _∷_}
 use mathlib.Core.Option.{Option}
 use lib.IntN.{ℤ}
 use lib.ListN.{length, getD}
-use Rattle.answer.specs.Answer.{Answer, refused, gives, andThen}
+use Rattle.answer.specs.Answer.{Answer, refused, gives, andThen, only}
 use Rattle.memory.specs.Bytes.{span}
 use Rattle.memory.specs.Layout.{roomSize, roomAt, slot}
 use Rattle.book.specs.Book.{question}
@@ -33,8 +33,8 @@ use Rattle.questions.proofs.Asking.{asked, not-sound, is-sound, there, 
 -- ---- a question that is answered from the device of an ID
 
 module _ (q : Question) (m id : List ℕ) (x : Sought) (sought : Seeks m id x) (f : Device → Answer Value) (is : reply (means m .now) q ≡ andThen (find id (means m .now .devices)) f) where
-  pub refusal : (n : ℕ) → x ≡ Refused n → Did (question q) m m (refused n)
-  refusal n e = asked q m (refused n) (subst (λ (a : Answer Value). Says m a (refused n)) (sym is) (subst (Seeks m id) e sought f))
+  pub refusal : (n : ℕ) → x ≡ Refused n → Did (question q) m m (refused (only n))
+  refusal n e = asked q m (refused (only n)) (subst (λ (a : Answer Value). Says m a (refused (only n))) (sym is) (subst (Seeks m id) e sought f))
 
   pub answer : (start : ℕ) (a : Answer Value) → x ≡ Room start → a ≡ f (deviceOf (span m start roomSize)) → Did (question q) m m a
   answer start a e h =
@@ -50,8 +50,8 @@ found-room m id x start h e = subst (Seeks m id) e h
 
 -- ---- a question that is answered from the table
 
-pub unsound-asked : (q : Question) (m : List ℕ) → (Sound m → ⊥) → Did (question q) m m (refused 6)
-unsound-asked q m h = asked q m (refused 6) (not-sound m (reply (means m .now) q) h)
+pub unsound-asked : (q : Question) (m : List ℕ) → (Sound m → ⊥) → Did (question q) m m (refused (only 6))
+unsound-asked q m h = asked q m (refused (only 6)) (not-sound m (reply (means m .now) q) h)
 
 pub sound-asked : (q : Question) (m : List ℕ) (a : Answer Value) → Sound m → a ≡ reply (means m .now) q → Did (question q) m m a
 sound-asked q m a s e = asked q m a (is-sound m (reply (means m .now) q) a s e)
@@ -64,15 +64,15 @@ at-some i [] z h = absurd (not-suc-le-zero h)
 at-some zero (x ∷ l) z h = refl
 at-some (suc i) (x ∷ l) z h = at-some i l z (le-of-suc-le-suc h)
 
-pub at-none : {A : Type 0} (i : ℕ) (l : List A) → length l ≤ i → at i l ≡ refused 3
+pub at-none : {A : Type 0} (i : ℕ) (l : List A) → length l ≤ i → at i l ≡ refused (only 3)
 unfolding at
 at-none i [] h = refl
 at-none zero (x ∷ l) h = absurd (not-suc-le-zero h)
 at-none (suc i) (x ∷ l) h = at-none i l (le-of-suc-le-suc h)
 
-pub nth-none : (m : List ℕ) (i n : ℕ) → Sound m → n ≡ length (means m .now .devices) → n ≤ i → Did (question (askNth i)) m m (refused 3)
+pub nth-none : (m : List ℕ) (i n : ℕ) → Sound m → n ≡ length (means m .now .devices) → n ≤ i → Did (question (askNth i)) m m (refused (only 3))
 unfolding reply
-nth-none m i n s e h = sound-asked (askNth i) m (refused 3) s (not-there (at i (means m .now .devices)) 3 (λ v. gives (anId (v .id))) (at-none i (means m .now .devices) (omega arith)))
+nth-none m i n s e h = sound-asked (askNth i) m (refused (only 3)) s (not-there (at i (means m .now .devices)) (only 3) (λ v. gives (anId (v .id))) (at-none i (means m .now .devices) (omega arith)))
 
 pub nth-room : (m : List ℕ) (i n start : ℕ) → Sound m → n ≡ length (means m .now .devices) → i < n → start ≡ roomAt (slot m i) → RoomOf m start (at i (means m .now .devices))
 nth-room m i n start s e h g = room-of m i start (at i (means m .now .devices)) s (omega arith) g (at-some i (means m .now .devices) (deviceOf []) (omega arith))

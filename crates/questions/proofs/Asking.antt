@@ -4,7 +4,7 @@ use native.Mathlib.Omega.{arith}
 use mathlib.Core.Path.{_≡_, refl, sym, ap, _∙_}
 use mathlib.Core.List.{List, []}
 use lib.ListN.{length, getD, length-take}
-use Rattle.answer.specs.Answer.{Answer, refused, gives, andThen}
+use Rattle.answer.specs.Answer.{Answer, refused, gives, andThen, only, Refusal}
 use Rattle.memory.specs.Bytes.{span}
 use Rattle.memory.specs.Layout.{roomSize, roomAt, capacity, slot}
 use Rattle.memory.specs.State.{state, roomOf, number, devices}
@@ -36,7 +36,7 @@ asked q m a h = record {
   beyond = refl;
 }
 
-pub not-sound : (m : List ℕ) (should : Answer Value) → (Sound m → ⊥) → Says m should (refused 6)
+pub not-sound : (m : List ℕ) (should : Answer Value) → (Sound m → ⊥) → Says m should (refused (only 6))
 not-sound m should h = record { unsound = λ h′. refl; answered = λ s. absurd (h s) }
 
 pub is-sound : (m : List ℕ) (should a : Answer Value) → Sound m → a ≡ should → Says m should a
@@ -47,7 +47,7 @@ pub there : {A B : Type 0} (x : Answer A) (v : A) (f : A → Answer B) (a : Answ
 unfolding andThen
 there x v f a e h = rw e h
 
-pub not-there : {A B : Type 0} (x : Answer A) (n : ℕ) (f : A → Answer B) → x ≡ refused n → refused n ≡ andThen x f
+pub not-there : {A B : Type 0} (x : Answer A) (n : Refusal) (f : A → Answer B) → x ≡ refused n → refused n ≡ andThen x f
 unfolding andThen
 not-there x n f e = rw e
 
@@ -70,5 +70,5 @@ room-of m i start v s h e f =
 pub sought : (m id : List ℕ) (rank n start : ℕ) → Sound m → rank ≡ rankOf id (means m .now .devices) → n ≡ length (means m .now .devices) → rank < n → start ≡ roomAt (slot m rank) → RoomOf m start (find id (means m .now .devices))
 sought m id rank n start s e f h g = room-of m rank start (find id (means m .now .devices)) s (omega arith) g (find-rank id (means m .now .devices) (deviceOf []) (omega arith) ∙ ap (λ (i : ℕ). gives (getD (means m .now .devices) i (deviceOf []))) (sym e))
 
-pub not-found : (m id : List ℕ) (rank n : ℕ) (f : Device → Answer Value) → Sound m → rank ≡ rankOf id (means m .now .devices) → n ≡ length (means m .now .devices) → n ≤ rank → Says m (andThen (find id (means m .now .devices)) f) (refused 12)
-not-found m id rank n f s e g h = is-sound m (andThen (find id (means m .now .devices)) f) (refused 12) s (not-there (find id (means m .now .devices)) 12 f (find-none id (means m .now .devices) (omega (arith, first-within (λ (v : Device). eqBytes (v .id) id) (means m .now .devices)))))
+pub not-found : (m id : List ℕ) (rank n : ℕ) (f : Device → Answer Value) → Sound m → rank ≡ rankOf id (means m .now .devices) → n ≡ length (means m .now .devices) → n ≤ rank → Says m (andThen (find id (means m .now .devices)) f) (refused (only 12))
+not-found m id rank n f s e g h = is-sound m (andThen (find id (means m .now .devices)) f) (refused (only 12)) s (not-there (find id (means m .now .devices)) (only 12) f (find-none id (means m .now .devices) (omega (arith, first-within (λ (v : Device). eqBytes (v .id) id) (means m .now .devices)))))

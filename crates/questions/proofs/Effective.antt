@@ -4,7 +4,7 @@ use mathlib.Core.Path.{_≡_, refl, sym, ap, _∙_, subst}
 use mathlib.Core.Bool.{Bool, true, false, cond, false≢true}
 use mathlib.Core.List.{List}
 use mathlib.Core.Option.{none, some}
-use Rattle.answer.specs.Answer.{Answer, refused, gives, andThen}
+use Rattle.answer.specs.Answer.{Answer, refused, gives, andThen, only}
 use Rattle.text.specs.declared.Place.{Place}
 use Rattle.text.specs.Places.{bytesAt}
 use Rattle.memory.specs.Bytes.{span}
@@ -33,7 +33,7 @@ not-lost m id x n s h e = go (find id (means m .now .devices)) (subst (Seeks m i
     table-says : Device → Value
     table-says v = aText none
 
-    go : (y : Answer Device) → refused n ≡ andThen y (λ v. gives (table-says v)) → false ≡ foundLost y
+    go : (y : Answer Device) → refused (only n) ≡ andThen y (λ v. gives (table-says v)) → false ≡ foundLost y
     go (refused k) z = refl
     go (gives v) z = absurd (differ z)
       where
@@ -41,7 +41,7 @@ not-lost m id x n s h e = go (find id (means m .now .devices)) (subst (Seeks m i
         told (refused k) = true
         told (gives a) = false
 
-        differ : _≡_ {A = Answer Value} (refused n) (gives (table-says v)) → ⊥
+        differ : _≡_ {A = Answer Value} (refused (only n)) (gives (table-says v)) → ⊥
         differ z′ = false≢true (sym (ap told z′))
 
 pub is-lost : (m id : List ℕ) (start : ℕ) (room : List ℕ) (r : Bool) → RoomOf m start (find id (means m .now .devices)) → room ≡ span m start roomSize → r ≡ foundLost (gives (deviceOf room)) → r ≡ foundLost (find id (means m .now .devices))

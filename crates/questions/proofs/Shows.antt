@@ -6,7 +6,7 @@ use mathlib.Core.Bool.{true, false}
 use mathlib.Core.List.{List}
 use mathlib.Core.Option.{Option, none, some}
 use lib.ListN.{length, getD}
-use Rattle.answer.specs.Answer.{Answer, gives, andThen}
+use Rattle.answer.specs.Answer.{Answer, gives, andThen, only}
 use Rattle.text.specs.declared.Place.{Place}
 use Rattle.text.specs.Places.{bytesAt, Within}
 use Rattle.memory.specs.Bytes.{span}
@@ -69,7 +69,7 @@ module _ (m room : List ℕ) (start n : ℕ) (h : start + roomSize ≤ length m)
 
   pub no-property : (i : ℕ) → n ≤ i → Shown (saysProperty m (property.Refused 3)) (andThen (at i (propertiesIn (span m start roomSize))) (λ p. gives (aProperty (p .declared)))) Unit
   unfolding saysProperty
-  no-property i k = record { says = not-there (at i (propertiesIn (span m start roomSize))) 3 (λ p. gives (aProperty (p .declared))) (at-none i (propertiesIn (span m start roomSize)) (omega (arith, count-is))); places = tt }
+  no-property i k = record { says = not-there (at i (propertiesIn (span m start roomSize))) (only 3) (λ p. gives (aProperty (p .declared))) (at-none i (propertiesIn (span m start roomSize)) (omega (arith, count-is))); places = tt }
 
   pub a-property : (i : ℕ) (p : shown.Property) (node own format : Place) → i < n → PropertyIn room (recordOf room (recordAt i)) p → node ≡ shifted start (p .node) → own ≡ shifted start (p .id) → format ≡ shifted start (p .format)
       → Shown (saysProperty m (property.Is node own (p .datatype) format (p .settable) (p .retained))) (andThen (at i (propertiesIn (span m start roomSize))) (λ p. gives (aProperty (p .declared)))) (Within (length m) node × Within (length m) own × Within (length m) format)
@@ -100,7 +100,7 @@ module _ (m room : List ℕ) (start n : ℕ) (h : start + roomSize ≤ length m)
 
     pub no-lane : n ≤ i → Shown (saysHeld m (held.Refused 16)) (andThen (findProperty node own (propertiesIn (span m start roomSize))) (λ q. gives (aLane (laneOf kind q)))) Unit
     unfolding saysHeld
-    no-lane k = record { says = not-there (findProperty node own (propertiesIn (span m start roomSize))) 16 (λ q. gives (aLane (laneOf kind q))) (property-none node own (propertiesIn (span m start roomSize)) (omega (arith, first-is, count-is, first-within (isNamed node own) (propertiesIn (span m start roomSize))))); places = tt }
+    no-lane k = record { says = not-there (findProperty node own (propertiesIn (span m start roomSize))) (only 16) (λ q. gives (aLane (laneOf kind q))) (property-none node own (propertiesIn (span m start roomSize)) (omega (arith, first-is, count-is, first-within (isNamed node own) (propertiesIn (span m start roomSize))))); places = tt }
 
     module _ (p : shown.Property) (lane : Lane) (k : i < n) (s : PropertyIn room (recordOf room (recordAt i)) p) (c : lane ≡ chosen kind p) where
       pub payload-place : Within roomSize (lane .payload)

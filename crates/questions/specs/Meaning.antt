@@ -3,7 +3,7 @@ use Prim.Native.Nat.{ℕ, _^_}
 use mathlib.Core.List.{List}
 use mathlib.Core.Option.{none, some}
 use lib.ListN.{length}
-use Rattle.answer.specs.Answer.{Answer, refused, gives}
+use Rattle.answer.specs.Answer.{Answer, refused, gives, only}
 use Rattle.numbers.specs.Whole.{stands}
 use Rattle.text.specs.Places.{bytesAt, Within}
 use Rattle.book.specs.Book.{question}
@@ -27,39 +27,39 @@ use Rattle.questions.specs.declared.Time.{Time}
 use Rattle.questions.specs.declared.Time.the-variants as time
 
 unfoldable pub saysNumber : Number → Answer Value
-saysNumber (number.Refused n) = refused n
+saysNumber (number.Refused n) = refused (only n)
 saysNumber (number.Is n) = gives (aNumber n)
 
 unfoldable pub saysId : List ℕ → Id → Answer Value
-saysId m (id.Refused n) = refused n
+saysId m (id.Refused n) = refused (only n)
 saysId m (id.At p) = gives (anId (bytesAt m p))
 
 unfoldable pub saysStates : States → Answer Value
-saysStates (states.Refused n) = refused n
+saysStates (states.Refused n) = refused (only n)
 saysStates (states.Are own effective t) = gives (twoStates own effective t)
 
 unfoldable pub saysRelative : List ℕ → Relative → Answer Value
-saysRelative m (relative.Refused n) = refused n
+saysRelative m (relative.Refused n) = refused (only n)
 saysRelative m relative.Nothing = gives (aText none)
 saysRelative m (relative.At p) = gives (aText (some (bytesAt m p)))
 
 -- the version's number is shown plus 2^63
 unfoldable pub saysVersion : Version → Answer Value
-saysVersion (version.Refused n) = refused n
+saysVersion (version.Refused n) = refused (only n)
 saysVersion version.Nothing = gives (aVersion none)
 saysVersion (version.Is v) = gives (aVersion (some (stands (2 ^ 63) v)))
 
 unfoldable pub saysProperty : List ℕ → Property → Answer Value
-saysProperty m (property.Refused n) = refused n
+saysProperty m (property.Refused n) = refused (only n)
 saysProperty m (property.Is node i d f s r) = gives (aProperty (record { node = bytesAt m node; id = bytesAt m i; datatype = d; format = bytesAt m f; settable = s; retained = r }))
 
 unfoldable pub saysHeld : List ℕ → Held → Answer Value
-saysHeld m (held.Refused n) = refused n
+saysHeld m (held.Refused n) = refused (only n)
 saysHeld m held.Empty = gives (aLane none)
 saysHeld m (held.Holds t p) = gives (aLane (some (record { time = t; payload = bytesAt m p })))
 
 unfoldable pub saysTime : Time → Answer Value
-saysTime (time.Refused n) = refused n
+saysTime (time.Refused n) = refused (only n)
 saysTime time.Never = gives (aTime none)
 saysTime (time.At t) = gives (aTime (some t))
 

@@ -4,7 +4,7 @@ use mathlib.Core.Path.{_≡_}
 use mathlib.Core.List.{List}
 use mathlib.Core.Option.{Option}
 use lib.ListN.{length}
-use Rattle.answer.specs.Answer.{Answer, refused, gives, andThen}
+use Rattle.answer.specs.Answer.{Answer, refused, gives, andThen, only}
 use Rattle.memory.specs.Bytes.{span}
 use Rattle.memory.specs.Layout.{roomSize}
 use Rattle.rules.specs.declared.LaneKind.{LaneKind}
@@ -23,7 +23,7 @@ use Rattle.questions.specs.Meaning.{saysId, saysRelative, saysProperty, 
 
 -- an answer that is 6 for unsound memory, and else this one
 pub record Says (m : List ℕ) (should a : Answer Value) : Type 0 where
-  pub unsound : (Sound m → ⊥) → a ≡ refused 6
+  pub unsound : (Sound m → ⊥) → a ≡ refused (only 6)
   pub answered : Sound m → a ≡ should
 
 -- the room that starts there, and the device in it
@@ -41,7 +41,7 @@ pub record RoomOf (m : List ℕ) (start : ℕ) (v : Answer Device) : Type 0 wher
 
 -- a device sought by its ID: the refusal of every question about it, or its room
 abbrev pub Seeks : List ℕ → List ℕ → Sought → Type 0
-Seeks m id (Refused n) = (f : Device → Answer Value) → Says m (andThen (find id (devicesIn m)) f) (refused n)
+Seeks m id (Refused n) = (f : Device → Answer Value) → Says m (andThen (find id (devicesIn m)) f) (refused (only n))
 Seeks m id (Room start) = RoomOf m start (find id (devicesIn m))
 
 -- an answer that says what it should, and whose places are where they should be

@@ -41,6 +41,7 @@ fn answer(o: Outcome) -> u64 {
     match o {
         Outcome::Taken => 0,
         Outcome::Refused(n) => n as u64,
+        Outcome::Faulty(n, _) => n as u64,
     }
 }
 

@@ -1,5 +1,5 @@
 -- What descriptions declare.
-use mathlib.Core.Path.{_≡_, refl, sym, ap, _∙_}
+use mathlib.Core.Path.{_≡_, refl, sym, ap, _∙_, subst}
 use mathlib.Core.List.{List, [], _∷_}
 use mathlib.Core.Bool.{Bool, true, false, cond}
 use Prim.Native.Nat.{ℕ, zero, suc, _^_, _≤_, _<_}
@@ -7,6 +7,9 @@ use native.Mathlib.Omega.{arith}
 use lib.ListN.{length, take, getD}
 use lib.Dec.{ltb}
 use mir.Val.{boolByte}
+use Rattle.answer.specs.Answer.{placed}
+use Rattle.faults.specs.declared.Told.{Told}
+use Rattle.faults.specs.declared.Told.the-variants.{Nothing, At}
 use Rattle.numbers.specs.Whole.{stands}
 use Rattle.payload.specs.Datatypes.{codeOf}
 use Rattle.payload.specs.declared.Format.{Format}
@@ -14,20 +17,30 @@ use Rattle.payload.specs.declared.Format.the-variants.{AsGiven}
 use Rattle.fields.specs.Values.{stringBytes}
 use Rattle.fields.specs.Fields.{textIn}
 use Rattle.fields.specs.declared.Field.{Field}
-use Rattle.fields.specs.declared.Field.the-variants.{One}
+use Rattle.fields.specs.declared.Field.the-variants.{First}
 use Rattle.properties.specs.Property.{textOf}
 use Rattle.properties.specs.declared.Entry.{Entry}
 use Rattle.description.specs.declared.Description.{Description}
-use Rattle.reply.specs.Reply.{Reply, says, refuses, bit, twosComplement}
-use Rattle.reply.specs.Descriptions.{presence, place, isGiven, keptNumber, formatPlace, entryValues, entryAt, showDescription, showDeclared}
+use Rattle.reply.specs.Reply.{Reply, says, refuses, refusalCode, placesBelow, bit, twosComplement}
+use Rattle.reply.specs.Descriptions.{presence, place, isGiven, keptNumber, formatPlace, entryValues, entryAt, unlessTold, ToldFits, showDescription, showDeclared}
+use Rattle.table.specs.declared.Outcome.{Outcome}
+use Rattle.table.specs.declared.Outcome.the-variants.{Faulty}
+use Rattle.reply.specs.Answers.{OutcomeFits}
 use Rattle.reply.proofs.Shown.{as-bit}
 
-pub description-refused : (d : Description) → d .taken ≡ false → showDescription d ≡ refuses 15
-unfolding showDescription
-description-refused d h = rw h
+-- the place that is told has room
+pub told-fits : (t : Told) (p n : ℕ) → ToldFits t → t ≡ At p n → p < placesBelow
+told-fits t p n h e = subst ToldFits e h
 
-pub description-shown : (d : Description) (v x y z w : ℕ) → d .taken ≡ true → v ≡ twosComplement (stands (2 ^ 63) (d .version)) → x ≡ presence (d .root) → y ≡ place (d .root) → z ≡ presence (d .parent) → w ≡ place (d .parent) → showDescription d ≡ says (v ∷ x ∷ y ∷ z ∷ w ∷ d .properties .n ∷ [])
-unfolding showDescription
+pub outcome-fits : (a : Outcome) (p n : ℕ) → OutcomeFits a → a ≡ Faulty n p → p < placesBelow
+outcome-fits a p n h e = subst OutcomeFits e h
+
+pub description-refused : (d : Description) (p n k : ℕ) → d .told ≡ At p n → k ≡ refusalCode (placed n p) → showDescription d ≡ refuses k
+unfolding showDescription unlessTold
+description-refused d p n k h e = rw (h, e)
+
+pub description-shown : (d : Description) (v x y z w : ℕ) → d .told ≡ Nothing → v ≡ twosComplement (stands (2 ^ 63) (d .version)) → x ≡ presence (d .root) → y ≡ place (d .root) → z ≡ presence (d .parent) → w ≡ place (d .parent) → showDescription d ≡ says (v ∷ x ∷ y ∷ z ∷ w ∷ d .properties .n ∷ [])
+unfolding showDescription unlessTold
 description-shown d v x y z w h g a b c e = rw (h, g, a, b, c, e)
 
 -- ---- a property's format
@@ -35,9 +48,9 @@ description-shown d v x y z w h g a b c e = rw (h, g, a, b, c, e)
 pub given-told : (s : List ℕ) (f x : Field) → f ≡ x → isGiven s x ≡ isGiven s f
 given-told s f x e = ap (isGiven s) (sym e)
 
-pub given-one : (s t : List ℕ) (f : Field) (k : ℕ) → f ≡ One k → t ≡ stringBytes s k → ltb 0 (length t) ≡ isGiven s f
+pub given-first : (s t : List ℕ) (f : Field) (k : ℕ) → f ≡ First k → t ≡ stringBytes s k → ltb 0 (length t) ≡ isGiven s f
 unfolding isGiven textOf textIn
-given-one s t f k e h = ap (λ (u : List ℕ). ltb 0 (length u)) h ∙ given-told s f (One k) e
+given-first s t f k e h = ap (λ (u : List ℕ). ltb 0 (length u)) h ∙ given-told s f (First k) e
 
 module _ (k : Format) (given : Bool) where
   pub kept-told : (x : Format) → k ≡ x → keptNumber x given ≡ keptNumber k given
@@ -92,10 +105,10 @@ one-at s (e ∷ l) zero i x h k = absurd (omega arith)
 one-at s (e ∷ l) (suc n) zero x h k = refl
 one-at s (e ∷ l) (suc n) (suc i) x h k = one-at s l n i x (omega arith) (omega arith)
 
-pub declared-refused : (s : List ℕ) (d : Description) (i : ℕ) → d .taken ≡ false → showDeclared s d i ≡ refuses 15
-unfolding showDeclared
-declared-refused s d i h = rw h
+pub declared-refused : (s : List ℕ) (d : Description) (i p n k : ℕ) → d .told ≡ At p n → k ≡ refusalCode (placed n p) → showDeclared s d i ≡ refuses k
+unfolding showDeclared unlessTold
+declared-refused s d i p n k h e = rw (h, e)
 
-pub declared-shown : (s : List ℕ) (d : Description) (i : ℕ) → d .taken ≡ true → showDeclared s d i ≡ entryAt s (take (d .properties .n) (d .properties .items)) i
-unfolding showDeclared
+pub declared-shown : (s : List ℕ) (d : Description) (i : ℕ) → d .told ≡ Nothing → showDeclared s d i ≡ entryAt s (take (d .properties .n) (d .properties .items)) i
+unfolding showDeclared unlessTold
 declared-shown s d i h = rw h

@@ -26,7 +26,7 @@ use Rattle.questions.specs.declared.Property.the-variants.{Is}
 use Rattle.questions.specs.declared.Version.{Version}
 use Rattle.questions.specs.declared.Version.the-variants as version
 use Rattle.verdict.proofs.Forms.{HasForm}
-use Rattle.reply.specs.Reply.{Reply, says, refuses, yes, bit, twosComplement}
+use Rattle.reply.specs.Reply.{Reply, says, refuses, telling, yes, bit, twosComplement}
 use Rattle.reply.specs.Judgements.{showNamed, showFlag, flagNumber}
 use Rattle.reply.specs.Answers.{showStates, showVersion, showProperty}
 
@@ -57,7 +57,7 @@ unfolding showNamed
 named-shown a d k g h = ap showNamed g ∙ ap (λ (n : ℕ). yes (n ∷ [])) (sym h)
 
 pub flag-refused : (s : List ℕ) (t : Topic) (k : ℕ) → t ≡ topic.Refused k → showFlag (meaning s t) ≡ refuses k
-unfolding showFlag meaning
+unfolding showFlag meaning telling
 flag-refused s t k g = ap (λ (x : Topic). showFlag (meaning s x)) g
 
 pub flag-shown : (s : List ℕ) (t : Topic) (f : Flag) (n : ℕ) → HasForm t s → f ≡ flagIn (meaning s t) → n ≡ flagNumber f → showFlag (meaning s t) ≡ says (n ∷ [])

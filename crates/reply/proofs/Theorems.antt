@@ -3,12 +3,13 @@ use Prim.Native.Nat.{ℕ, zero, suc, _^_, _≤_, _<_}
 use native.Mathlib.Omega.{arith}
 use mathlib.Core.Path.{_≡_}
 use mathlib.Core.List.{List, [], _∷_}
-use mathlib.Core.Bool.{Bool, true, false, cond}
 use lib.ListN.{length, take}
 use mir.Syntax.{w64}
 use mir.Val.{toZ}
 use Rattle.numbers.specs.Whole.{stands}
 use Rattle.answer.specs.Answer.{Answer, refused, gives}
+use Rattle.faults.specs.declared.Told.{Told}
+use Rattle.faults.specs.declared.Told.the-variants.{Nothing, At}
 use Rattle.trace.specs.declared.Checked.{Checked}
 use Rattle.trace.specs.declared.Checked.the-variants as checked
 use Rattle.trace.specs.declared.Reading.{Reading}
@@ -44,10 +45,10 @@ use Rattle.questions.specs.declared.Held.{Held}
 use Rattle.questions.specs.declared.Held.the-variants as held
 use Rattle.questions.specs.declared.Time.{Time}
 use Rattle.questions.specs.declared.Time.the-variants as time
-use Rattle.reply.specs.Reply.{Reply, refuses, twosComplement, FitsArray}
+use Rattle.reply.specs.Reply.{Reply, twosComplement, FitsArray}
 use Rattle.reply.specs.Files.{showChecked, eventValues, showReading, stepReply, showStep, showWritten}
 use Rattle.reply.specs.Judgements.{showTopic, showFlag, showNamed, showFormat}
-use Rattle.reply.specs.Descriptions.{entryValues, entryAt, showDescription, showDeclared}
+use Rattle.reply.specs.Descriptions.{entryValues, entryAt, unlessTold, showDescription, showDeclared}
 use Rattle.reply.specs.Answers.{showOffer, showNumber, showId, showStates, showRelative, showVersion, showProperty, showHeld, showTime}
 use Rattle.reply.proofs.Signed.{read-signed}
 
@@ -117,9 +118,10 @@ format-fits NotKept = omega arith
 
 -- ---- descriptions
 
-either : (t : Bool) (x : Reply) (n : ℕ) → FitsArray x → FitsArray (cond t x (refuses n))
-either true x n h = h
-either false x n h = omega arith
+either : (t : Told) (x : Reply) → FitsArray x → FitsArray (unlessTold t x)
+unfolding unlessTold
+either Nothing x h = h
+either (At p n) x h = omega arith
 
 entry-fits : (s : List ℕ) (es : List Entry) (i : ℕ) → FitsArray (entryAt s es i)
 unfolding entryAt entryValues
@@ -129,11 +131,11 @@ entry-fits s (e ∷ es) (suc i) = entry-fits s es i
 
 pub description-fits : (a : declared.Description) → FitsArray (showDescription a)
 unfolding showDescription
-description-fits a = either (a .taken) _ 15 (omega arith)
+description-fits a = either (a .told) _ (omega arith)
 
 pub declared-fits : (s : List ℕ) (a : declared.Description) (i : ℕ) → FitsArray (showDeclared s a i)
 unfolding showDeclared
-declared-fits s a i = either (a .taken) _ 15 (entry-fits s (take (a .properties .n) (a .properties .items)) i)
+declared-fits s a i = either (a .told) _ (entry-fits s (take (a .properties .n) (a .properties .items)) i)
 
 -- ---- the table
 

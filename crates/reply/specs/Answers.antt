@@ -1,6 +1,7 @@
 -- The table: what is shown of each answer of crates `table` and `questions`. A place is one of the lent memory.
-use Prim.Native.Nat.{ℕ, _^_}
+use Prim.Native.Nat.{ℕ, _^_, _<_}
 use mathlib.Core.List.{[], _∷_}
+use Rattle.answer.specs.Answer.{placed}
 use Rattle.numbers.specs.Whole.{stands}
 use Rattle.payload.specs.Datatypes as datatypes
 use Rattle.rules.specs.States.{codeOf}
@@ -24,12 +25,20 @@ use Rattle.questions.specs.declared.Held.{Held}
 use Rattle.questions.specs.declared.Held.the-variants as held
 use Rattle.questions.specs.declared.Time.{Time}
 use Rattle.questions.specs.declared.Time.the-variants as time
-use Rattle.reply.specs.Reply.{Reply, says, refuses, bit, twosComplement}
+use Rattle.reply.specs.Reply.{Reply, says, refuses, refusalCode, placesBelow, bit, twosComplement}
 
 -- Paper 01, "Known examples": "answer (0 taken)"
 unfoldable pub outcomeNumber : Outcome → ℕ
 outcomeNumber outcome.Taken = 0
 outcomeNumber (outcome.Refused k) = k
+-- paper 02, K1, "with the byte place"
+outcomeNumber (outcome.Faulty k place) = refusalCode (placed k place)
+
+-- its place, if it tells one, has room
+abbrev pub OutcomeFits : Outcome → Type 0
+OutcomeFits outcome.Taken = Unit
+OutcomeFits (outcome.Refused k) = Unit
+OutcomeFits (outcome.Faulty k place) = place < placesBelow
 
 -- Paper 01, "The table", Questions, from here on: "steps on offer"
 unfoldable pub showOffer : Offer → Reply

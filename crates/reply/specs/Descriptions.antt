@@ -1,35 +1,46 @@
 -- Descriptions: what is shown of what they declare. A place is where a string's opening quote stands in the text.
-use Prim.Native.Nat.{ℕ, zero, suc, _^_}
+use Prim.Native.Nat.{ℕ, zero, suc, _^_, _<_}
 use mathlib.Core.List.{List, [], _∷_}
 use mathlib.Core.Bool.{Bool, cond}
 use lib.ListN.{length, take}
 use lib.Dec.{ltb}
+use Rattle.answer.specs.Answer.{placed}
+use Rattle.faults.specs.declared.Told.{Told}
+use Rattle.faults.specs.declared.Told.the-variants.{Nothing, At}
 use Rattle.numbers.specs.Whole.{stands}
 use Rattle.payload.specs.Datatypes.{codeOf}
 use Rattle.payload.specs.declared.Format.{Format}
 use Rattle.payload.specs.declared.Format.the-variants.{Bad, AsGiven, Colon, FalseTrue, NotKept}
 use Rattle.fields.specs.declared.Field.{Field}
-use Rattle.fields.specs.declared.Field.the-variants.{Absent, One, Twice}
+use Rattle.fields.specs.declared.Field.the-variants.{Absent, First}
 use Rattle.fields.specs.Fields.{textIn}
 use Rattle.properties.specs.Property.{textOf}
 use Rattle.properties.specs.declared.Entry.{Entry}
 use Rattle.description.specs.declared.Description.{Description}
-use Rattle.reply.specs.Reply.{Reply, says, refuses, bit, twosComplement}
+use Rattle.reply.specs.Reply.{Reply, says, refuses, refusalCode, placesBelow, bit, twosComplement}
 
 -- 1 and a field's place; 0 and 0 where it has none
 unfoldable pub presence : Field → ℕ
 presence Absent = 0
-presence (One k) = 1
-presence Twice = 0
+presence (First k) = 1
 
 unfoldable pub place : Field → ℕ
 place Absent = 0
-place (One k) = k
-place Twice = 0
+place (First k) = k
+
+-- Paper 02, K1, "with the byte place": what is told of a description, or else a reply
+unfoldable pub unlessTold : Told → Reply → Reply
+unlessTold Nothing x = x
+unlessTold (At p n) x = refuses (refusalCode (placed n p))
+
+-- its place has room
+abbrev pub ToldFits : Told → Type 0
+ToldFits Nothing = Unit
+ToldFits (At p n) = p < placesBelow
 
 -- Paper 01, "The table": "from its description: root, parent, version, properties": the version as an `int64_t`, the root, the parent, how many properties
 unfoldable pub showDescription : Description → Reply
-showDescription d = cond (d .taken) (says (twosComplement (stands (2 ^ 63) (d .version)) ∷ presence (d .root) ∷ place (d .root) ∷ presence (d .parent) ∷ place (d .parent) ∷ d .properties .n ∷ [])) (refuses 15)
+showDescription d = unlessTold (d .told) (says (twosComplement (stands (2 ^ 63) (d .version)) ∷ presence (d .root) ∷ place (d .root) ∷ presence (d .parent) ∷ place (d .parent) ∷ d .properties .n ∷ []))
 
 -- whether a format with bytes stands in the text
 unfoldable pub isGiven : List ℕ → Field → Bool
@@ -64,4 +75,4 @@ entryAt s (e ∷ es) (suc i) = entryAt s es i
 
 -- the i-th property of a description of that text
 unfoldable pub showDeclared : List ℕ → Description → ℕ → Reply
-showDeclared s d i = cond (d .taken) (entryAt s (take (d .properties .n) (d .properties .items)) i) (refuses 15)
+showDeclared s d i = unlessTold (d .told) (entryAt s (take (d .properties .n) (d .properties .items)) i)

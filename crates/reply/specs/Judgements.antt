@@ -14,7 +14,7 @@ use Rattle.payload.specs.declared.Named.{Named}
 use Rattle.payload.specs.declared.Named.the-variants.{Known, Unknown}
 use Rattle.payload.specs.declared.Format.{Format}
 use Rattle.payload.specs.declared.Format.the-variants.{Bad, AsGiven, Colon, FalseTrue, NotKept}
-use Rattle.reply.specs.Reply.{Reply, says, refuses, yes, no}
+use Rattle.reply.specs.Reply.{Reply, says, refuses, refusalCode, yes, no}
 
 -- The number of the form in the order of the paper's table, from 0; then where each of its byte strings starts and ends, in the order in which they stand in the topic.
 unfoldable pub showTopic : Topic → Reply
@@ -38,7 +38,7 @@ flagNumber AsProperty = 3
 
 -- what the form of a topic, as it is read, asks of a message's flag
 unfoldable pub showFlag : Answer Form → Reply
-showFlag (refused k) = refuses k
+showFlag (refused r) = refuses (refusalCode r)
 showFlag (gives f) = says (flagNumber (flagOf f) ∷ [])
 
 -- the number of the datatype in the paper's order, from 0

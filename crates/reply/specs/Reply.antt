@@ -1,12 +1,12 @@
 -- What a call of the interface hands back: a number, and values in a lent array of numbers.
-use Prim.Native.Nat.{ℕ, suc, _-_, _^_, _≤_}
+use Prim.Native.Nat.{ℕ, suc, _+_, _-_, _*_, _^_, _≤_}
 use mathlib.Core.Path.{_≡_}
 use mathlib.Core.Bool.{Bool, not, cond}
-use mathlib.Core.List.{List, [], _++_}
+use mathlib.Core.List.{List, [], _∷_, _++_}
 use lib.Dec.{eqb}
 use lib.IntN.{ℤ, pos, negsuc}
 use lib.ListN.{length, take, drop}
-use Rattle.answer.specs.Answer.{Answer, refused, gives}
+use Rattle.answer.specs.Answer.{Refusal, Answer, refused, gives}
 
 pub record Reply : Type 0 where
   pub number : ℕ
@@ -26,9 +26,21 @@ says vs = record { number = 0; values = vs }
 abbrev pub refuses : ℕ → Reply
 refuses n = record { number = n; values = [] }
 
+-- A refusal as one number of 32 bits: the paper's number in the lowest 8, and above them what it tells besides (paper 02, K1, "with the byte place").
+unfoldable pub telling : ℕ → List ℕ → ℕ
+telling n [] = n
+telling n (p ∷ ps) = n + 256 * p
+
+abbrev pub refusalCode : Refusal → ℕ
+refusalCode r = telling (r .number) (r .tells)
+
+-- places that there is room for: every place that a description's refusal tells is one
+abbrev pub placesBelow : ℕ
+placesBelow = 2 ^ 24
+
 -- the number of an answer of the definitions
 unfoldable pub refusalNumber : {A : Type 0} → Answer A → ℕ
-refusalNumber (refused n) = n
+refusalNumber (refused r) = refusalCode r
 refusalNumber (gives a) = 0
 
 -- a judgement is 1 for yes, 0 for no

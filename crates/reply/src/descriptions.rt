@@ -2,25 +2,23 @@
 ghost use mathlib.Core.Path.{_≡_};
 ghost use lib.ListN.{take};
 ghost use Rattle.reply.specs.Reply.{Replied, says};
-ghost use Rattle.reply.specs.Descriptions.{presence, place, isGiven, keptNumber, formatPlace, entryValues, entryAt, showDescription, showDeclared};
+ghost use Rattle.reply.specs.Descriptions.{presence, place, isGiven, keptNumber, formatPlace, entryValues, entryAt, ToldFits, showDescription, showDeclared};
+use crate::refusal_code;
 use crate::tell;
 use crate::twos_complement;
 use description::Description;
+use faults::Told;
 use fields::Field;
 use payload::Format;
 use properties::Entries;
 use properties::Entry;
-
-// As an index.
-const PROPERTIES_MOST: usize = device::PROPERTIES_MOST as usize;
 
 fn presence_of(f: Field) -> u64
     ensures { λ r. ⌜ r ≡ presence f ⌝ }
 {
     match f {
         Field::Absent => 0,
-        Field::One(_) => 1,
-        Field::Twice => 0,
+        Field::First(_) => 1,
     }
 }
 
@@ -29,17 +27,17 @@ fn place_of(f: Field) -> u64
 {
     match f {
         Field::Absent => 0,
-        Field::One(k) => k as u64,
-        Field::Twice => 0,
+        Field::First(k) => k as u64,
     }
 }
 
-pub fn tell_description(out: &mut [u64], d: Description) -> u8
+pub fn tell_description(out: &mut [u64], d: Description) -> u32
+    requires { ⌜ ToldFits (d .told) ⌝ }
     ensures { λ r. ⌜ Replied (showDescription d) (now (out .entry)) r (now (out .exit)) ⌝ }
 {
-    let taken = d.taken;
-    if !taken {
-        return 15;
+    let told = d.told;
+    if let Told::At(place, number) = told {
+        return refusal_code(number, place);
     }
     let root = d.root;
     let parent = d.parent;
@@ -62,11 +60,10 @@ fn is_given(s: &[u8], f: Field) -> bool
 {
     match f {
         Field::Absent => false,
-        Field::One(k) => {
+        Field::First(k) => {
             let t = fields::string_bytes(s, k);
             0 < t.len()
         }
-        Field::Twice => false,
     }
 }
 
@@ -104,7 +101,7 @@ fn format_place(f: Format, given: bool, at: Field) -> u64
     }
 }
 
-fn tell_entry(out: &mut [u64], s: &[u8], e: Entry) -> u8
+fn tell_entry(out: &mut [u64], s: &[u8], e: Entry) -> u32
     ensures { λ r. ⌜ Replied (says (entryValues (now (s .entry)) e)) (now (out .entry)) r (now (out .exit)) ⌝ }
 {
     let datatype = e.datatype;
@@ -125,13 +122,13 @@ fn tell_entry(out: &mut [u64], s: &[u8], e: Entry) -> u8
     tell(out, &vs)
 }
 
-fn tell_item(out: &mut [u64], s: &[u8], l: Entries, i: usize) -> u8
+fn tell_item(out: &mut [u64], s: &[u8], l: Entries, i: usize) -> u32
     ensures { λ r. ⌜ Replied (entryAt (now (s .entry)) (take (l .n) (l .items)) i) (now (out .entry)) r (now (out .exit)) ⌝ }
 {
     if i >= l.n {
         return 3;
     }
-    if i >= PROPERTIES_MOST {
+    if i >= properties::MOST {
         return 3;
     }
     let items = l.items;
@@ -140,12 +137,13 @@ fn tell_item(out: &mut [u64], s: &[u8], l: Entries, i: usize) -> u8
 }
 
 // The i-th property that a description of the text `s` declares, from 0.
-pub fn tell_declared(out: &mut [u64], s: &[u8], d: Description, i: usize) -> u8
+pub fn tell_declared(out: &mut [u64], s: &[u8], d: Description, i: usize) -> u32
+    requires { ⌜ ToldFits (d .told) ⌝ }
     ensures { λ r. ⌜ Replied (showDeclared (now (s .entry)) d i) (now (out .entry)) r (now (out .exit)) ⌝ }
 {
-    let taken = d.taken;
-    if !taken {
-        return 15;
+    let told = d.told;
+    if let Told::At(place, k) = told {
+        return refusal_code(k, place);
     }
     let l = d.properties;
     tell_item(out, s, l, i)

@@ -14,14 +14,14 @@ use text::Place;
 use topic::Flag;
 use topic::Topic;
 
-fn tell_one(out: &mut [u64], form: u64, a: Place) -> u8
+fn tell_one(out: &mut [u64], form: u64, a: Place) -> u32
     ensures { λ r. ⌜ Replied (says (places1 form a)) (now (out .entry)) r (now (out .exit)) ⌝ }
 {
     let vs = [form, a.start as u64, a.end as u64];
     tell(out, &vs)
 }
 
-fn tell_two(out: &mut [u64], form: u64, a: Place, b: Place) -> u8
+fn tell_two(out: &mut [u64], form: u64, a: Place, b: Place) -> u32
     ensures { λ r. ⌜ Replied (says (places2 form a b)) (now (out .entry)) r (now (out .exit)) ⌝ }
 {
     let vs = [
@@ -34,7 +34,7 @@ fn tell_two(out: &mut [u64], form: u64, a: Place, b: Place) -> u8
     tell(out, &vs)
 }
 
-fn tell_three(out: &mut [u64], form: u64, a: Place, b: Place, c: Place) -> u8
+fn tell_three(out: &mut [u64], form: u64, a: Place, b: Place, c: Place) -> u32
     ensures { λ r. ⌜ Replied (says (places3 form a b c)) (now (out .entry)) r (now (out .exit)) ⌝ }
 {
     let vs = [
@@ -49,11 +49,11 @@ fn tell_three(out: &mut [u64], form: u64, a: Place, b: Place, c: Place) -> u8
     tell(out, &vs)
 }
 
-pub fn tell_topic(out: &mut [u64], t: Topic) -> u8
+pub fn tell_topic(out: &mut [u64], t: Topic) -> u32
     ensures { λ r. ⌜ Replied (showTopic t) (now (out .entry)) r (now (out .exit)) ⌝ }
 {
     match t {
-        Topic::Refused(k) => k,
+        Topic::Refused(k) => k as u32,
         Topic::State { device: d } => tell_one(out, 0, d),
         Topic::Description { device: d } => tell_one(out, 1, d),
         Topic::Value {
@@ -97,24 +97,24 @@ fn flag_number(f: Flag) -> u64
 }
 
 // What the form of a topic asks of a message's flag.
-pub fn tell_flag(out: &mut [u64], t: Topic) -> u8
+pub fn tell_flag(out: &mut [u64], t: Topic) -> u32
     ensures { λ r. ⌜ ((s : List ℕ) → Replied (showFlag (meaning s t)) (now (out .entry)) r (now (out .exit))) ⌝ }
 {
     let flag = flag_number(topic::flag_of(t));
     match t {
-        Topic::Refused(k) => k,
+        Topic::Refused(k) => k as u32,
         _ => tell_value(out, flag),
     }
 }
 
-fn tell_yes(out: &mut [u64], code: u64) -> u8
+fn tell_yes(out: &mut [u64], code: u64) -> u32
     ensures { λ r. ⌜ Replied (yes (code ∷ [])) (now (out .entry)) r (now (out .exit)) ⌝ }
 {
     tell_value(out, code);
     1
 }
 
-pub fn tell_named(out: &mut [u64], a: Named) -> u8
+pub fn tell_named(out: &mut [u64], a: Named) -> u32
     ensures { λ r. ⌜ Replied (showNamed a) (now (out .entry)) r (now (out .exit)) ⌝ }
 {
     match a {
@@ -126,7 +126,7 @@ pub fn tell_named(out: &mut [u64], a: Named) -> u8
     }
 }
 
-pub fn tell_format(out: &mut [u64], f: Format) -> u8
+pub fn tell_format(out: &mut [u64], f: Format) -> u32
     ensures { λ r. ⌜ Replied (showFormat f) (now (out .entry)) r (now (out .exit)) ⌝ }
 {
     match f {

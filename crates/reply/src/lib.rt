@@ -1,17 +1,26 @@
 // What a call of the interface hands back of each answer of the crates below: a number, and values in the lent array `out`.
-ghost use Prim.Native.Nat.{_^_};
+ghost use Prim.Native.Nat.{_^_, _<_};
 ghost use mathlib.Core.Path.{_≡_};
 ghost use mathlib.Core.List.{_∷_, []};
+ghost use Rattle.answer.specs.Answer.{placed};
 ghost use Rattle.numbers.specs.Whole.{stands};
-ghost use Rattle.reply.specs.Reply.{Replied, says, twosComplement};
+ghost use Rattle.reply.specs.Reply.{Replied, says, refusalCode, placesBelow, twosComplement};
 
 pub mod answers;
 pub mod descriptions;
 pub mod files;
 pub mod judgements;
 
+// The number of a refusal that tells a place.
+pub fn refusal_code(number: u8, place: usize) -> u32
+    requires { ⌜ place < placesBelow ⌝ }
+    ensures { λ r. ⌜ r ≡ refusalCode (placed number place) ⌝ }
+{
+    number as u32 + 256 * (place as u32)
+}
+
 // Writes the values of an answer to the front of `out`, as far as they fit.
-pub fn tell(out: &mut [u64], vs: &[u64]) -> u8
+pub fn tell(out: &mut [u64], vs: &[u64]) -> u32
     ensures { λ r. ⌜ Replied (says (now (vs .entry))) (now (out .entry)) r (now (out .exit)) ⌝ }
 {
     let mut i: usize = 0;
@@ -25,7 +34,7 @@ pub fn tell(out: &mut [u64], vs: &[u64]) -> u8
     0
 }
 
-fn tell_value(out: &mut [u64], v: u64) -> u8
+fn tell_value(out: &mut [u64], v: u64) -> u32
     ensures { λ r. ⌜ Replied (says (v ∷ [])) (now (out .entry)) r (now (out .exit)) ⌝ }
 {
     let vs = [v];

@@ -5,7 +5,7 @@ use mathlib.Core.List.{List, [], _∷_, map}
 use mathlib.Core.Bool.{true, false, false≢true}
 use mathlib.Core.Option.{Option, none, some}
 use lib.ListN.{length}
-use Rattle.answer.specs.Answer.{Answer, refused, gives, andThen}
+use Rattle.answer.specs.Answer.{Answer, refused, gives, andThen, only, Refusal}
 use Rattle.text.specs.Bytes.{eqBytes, lessBytes}
 use Rattle.text.proofs.Bytes.{both, eqBytes-true, eqBytes-yes, eqBytes-no}
 use Rattle.topic.specs.Form as form
@@ -242,7 +242,7 @@ unfolding propertiesOf inDescription changeProperty
 properties-changed k h node property none = refl
 properties-changed k h node property (some z) = refl
 
-inserted : (w : Device) (ds : List Device) (n : ℕ) → find (w .id) ds ≡ refused n → find (w .id) (insert w ds) ≡ gives w
+inserted : (w : Device) (ds : List Device) (n : Refusal) → find (w .id) ds ≡ refused n → find (w .id) (insert w ds) ≡ gives w
 unfolding find insert
 inserted w [] n e = rw (eqBytes-yes (w .id) (w .id) refl, find)
 inserted w (v ∷ vs) n e = let m = absent-first (w .id) v vs n e in both (lessBytes (w .id) (v .id))
@@ -272,9 +272,9 @@ module _ (d : ℕ) (x : Message) (ds : List Device) (id : List ℕ) where
       go (refused m) i = given-require P _ 13 _ (λ h. rw i (inserted (newDevice id s (x .time)) ds m i))
 
   -- "empty payload removes it"
-  pub state-removed : ascends ds ≡ true → isEmpty (x .payload) ≡ true → Given (λ (es : List Device). find id es ≡ refused 12) (obeyState d id x ds)
+  pub state-removed : ascends ds ≡ true → isEmpty (x .payload) ≡ true → Given (λ (es : List Device). find id es ≡ refused (only 12)) (obeyState d id x ds)
   unfolding obeyState
-  state-removed h e = rw (e, obeyState) (given-then (λ (es : List Device). find id es ≡ refused 12) (find id ds) _ (λ v i. removed id ds h))
+  state-removed h e = rw (e, obeyState) (given-then (λ (es : List Device). find id es ≡ refused (only 12)) (find id ds) _ (λ v i. removed id ds h))
 
   -- ".. and frees its room for any other"
   pub state-freed : isEmpty (x .payload) ≡ true → Given (λ (es : List Device). suc (length es) ≡ length ds) (obeyState d id x ds)

@@ -28,6 +28,9 @@ use Rattle.payload.specs.Payloads as payloads
 use Rattle.properties.specs.Property as property
 use Rattle.nodes.specs.Nodes as nodes
 use Rattle.description.specs.Description as description
+use Rattle.faults.specs.Faults as faults
+use Rattle.fields.specs.Names as names
+use Rattle.json_grammar.specs.Place as places
 use Rattle.book.specs.Book as book
 use Rattle.rules.specs.Find as devices
 use Rattle.rules.specs.Messages as messages
@@ -42,13 +45,17 @@ unfolding abnf.isEmpty abnf.again abnf.starts abnf.accepts answer.require answer
     digits.numeral integers.value json.byte json.run json.past json.isWs json.ws json.word json.andThen members.nextAt members.itemAt members.memberAt members.listFrom
     members.membersAt number.isDigit number.digitsEnd number.optional number.isMinus number.someDigits number.intAt number.fracAt number.isExp number.expAt number.numberAt
     strings.plainStep strings.textStep strings.text strings.stringAt value.kindOf value.after value.series value.listOf value.colon value.keyAt value.memberOf value.objectOf
-    value.valueOf value.valueAt value.atEnd value.documentOf fields.holds fields.oneMore fields.pairs fields.fieldIn fields.field fields.optional fields.isPresent fields.isTwice
-    fields.textIn fields.flagIn fields.membersIn fields.plainIn fields.plainNames values.valueBytes values.stringBytes values.isStringAt values.isObject values.isTrue values.isFlag values.members
-    values.nameOf values.all values.isPlain values.ofKind entries.noneEmpty entries.noRepeats datatypes.datatypeNamed formats.keptFormat payloads.isPayload
-    property.datatypeIn property.isKnown property.plainText property.formatFits property.propertyRules property.typeOf property.textOf property.propertyAt property.insert
-    property.insertAll nodes.idRules nodes.propertyMember nodes.each nodes.nodeRules nodes.nodeMember nodes.propertiesAmong nodes.propertiesOf description.allDigits
-    description.minorRules description.isHomie description.homieIn description.versionIn description.isNumber description.otherRules description.fieldRules
-    description.isOther description.familyRules description.declared description.isEnd description.validRules description.rules description.describedIn description.describe
+    value.valueOf value.valueAt value.atEnd value.documentOf faults._otherwise_ faults.isEarlier faults.earlier faults.least names.knownNames names.isOneOf names.isKnown
+    fields.oneMore fields.fieldIn fields.field fields.isPresent fields.textIn fields.flagIn fields.membersIn fields.ofKind fields.among fields.stringFaults fields.idFaults
+    fields.arrayFaults fields.kindFaults fields.fieldFaults fields.closeAt fields.isFirst fields.comesFirst fields.nameFaultsOf fields.nameFaults fields.entryFaults
+    values.valueBytes values.stringBytes values.isStringAt values.isNumberAt values.isObject values.isTrue values.isFlag values.members values.nameOf values.isPlain
+    entries.noneEmpty entries.noRepeats datatypes.datatypeNamed formats.keptFormat payloads.isPayload
+    property.datatypeIn property.isDatatype property.datatypeFaults property.fitsDatatype property.formatFaults property.propertyFieldFaults property.propertyFaults property.typeOf
+    property.textOf property.propertyAt property.insert property.insertAll nodes.each nodes.propertyMember nodes.nodeFieldFaults nodes.nodeFaults nodes.nodeMember nodes.namedBy
+    nodes.namedIn nodes.tooMany nodes.nodesFaults nodes.propertiesAmong nodes.propertiesOf places.badPlace places.placeUnless places.badPlaces description.allDigits
+    description.isMinor description.isHomie description.homieFaults description.versionIn description.isNumber description.versionFaults description.otherFaults
+    description.relativeFaults description.rootFaults description.parentFaults description.declared description.deviceFieldFaults description.deviceFaults
+    description.jsonFaults description.faults description.told description.describedIn description.answered description.describe
     book.from book.answers devices.find devices.change devices.insert devices.isNamed devices.findProperty devices.changeProperty devices.inDescription devices.inDevice
     messages.isEmpty messages.makeOrUpdate messages.byWord messages.obeyState messages.describedBy messages.obeyDescription messages.heldBy messages.fill messages.isValid
     messages.sameFlag messages.valueRules messages.setRules messages.laneRules messages.obeyLane messages.obey messages.isDue messages.admittedForm messages.message questions.at

@@ -5,7 +5,7 @@ use mathlib.Core.Path.{_≡_, refl, sym, ap, _∙_, subst}
 use mathlib.Core.List.{List, [], _∷_}
 use mathlib.Core.Bool.{Bool, true, false, _&&_, false≢true}
 use lib.ListN.{length}
-use Rattle.answer.specs.Answer.{Answer, refused, gives}
+use Rattle.answer.specs.Answer.{Answer, refused, gives, only, Refusal}
 use Rattle.text.specs.Bytes.{eqBytes, lessBytes, Compared, before, equal, after}
 use Rattle.text.specs.Ids.{isId}
 use Rattle.text.proofs.Bytes.{both, and-both, eqBytes-sym, eqBytes-true}
@@ -19,7 +19,7 @@ and p q = rw (p, q)
 
 -- ---- a device that is not there
 
-pub absent-first : (id : List ℕ) (v : Device) (vs : List Device) (n : ℕ) → find id (v ∷ vs) ≡ refused n → (eqBytes (v .id) id ≡ false) × (find id vs ≡ refused n)
+pub absent-first : (id : List ℕ) (v : Device) (vs : List Device) (n : Refusal) → find id (v ∷ vs) ≡ refused n → (eqBytes (v .id) id ≡ false) × (find id vs ≡ refused n)
 unfolding find
 absent-first id v vs n e = both (eqBytes (v .id) id)
     (λ t. absurd (false≢true (subst isRefused (rw (t, find) at e) refl)))
@@ -37,7 +37,7 @@ lower a b [] l h = refl
 lower a b (v ∷ vs) l h = let q = and-both (lessBytes b (v .id)) (ascendsFrom (v .id) vs) h in and (transitive a b (v .id) l (q .0)) (q .1)
 
 -- none that stands after an ID has it
-absent-above : (id : List ℕ) (ds : List Device) → ascendsFrom id ds ≡ true → find id ds ≡ refused 12
+absent-above : (id : List ℕ) (ds : List Device) → ascendsFrom id ds ≡ true → find id ds ≡ refused (only 12)
 unfolding ascendsFrom find
 absent-above id [] h = refl
 absent-above id (v ∷ vs) h =
@@ -94,7 +94,7 @@ module _ (id : List ℕ) where
   remove-ascends [] h = refl
   remove-ascends (v ∷ vs) h = both (eqBytes (v .id) id) (λ t. rw (t, remove) (ascends-tail v vs h)) (λ t. rw (t, remove) (remove-from (v .id) vs h))
 
-  pub removed : (ds : List Device) → ascends ds ≡ true → find id (remove id ds) ≡ refused 12
+  pub removed : (ds : List Device) → ascends ds ≡ true → find id (remove id ds) ≡ refused (only 12)
   unfolding remove find ascends
   removed [] h = refl
   removed (v ∷ vs) h = both (eqBytes (v .id) id)
@@ -135,7 +135,7 @@ module _ (w : Device) where
       go false true false equal p q = sym p
       go false false true after p q = sym q
 
-  insert-from : (a : List ℕ) (ds : List Device) (n : ℕ) → lessBytes a (w .id) ≡ true → find (w .id) ds ≡ refused n → ascendsFrom a ds ≡ true → ascendsFrom a (insert w ds) ≡ true
+  insert-from : (a : List ℕ) (ds : List Device) (n : Refusal) → lessBytes a (w .id) ≡ true → find (w .id) ds ≡ refused n → ascendsFrom a ds ≡ true → ascendsFrom a (insert w ds) ≡ true
   unfolding insert ascendsFrom
   insert-from a [] n l e h = and l refl
   insert-from a (v ∷ vs) n l e h =
@@ -143,7 +143,7 @@ module _ (w : Device) where
       let m = absent-first (w .id) v vs n e in
       both (lessBytes (w .id) (v .id)) (λ t. rw (t, insert) (and l (and t (q .1)))) (λ t. rw (t, insert) (and (q .0) (insert-from (v .id) vs n (past v (m .0) t) (m .1) (q .1))))
 
-  insert-ascends : (ds : List Device) (n : ℕ) → find (w .id) ds ≡ refused n → ascends ds ≡ true → ascends (insert w ds) ≡ true
+  insert-ascends : (ds : List Device) (n : Refusal) → find (w .id) ds ≡ refused n → ascends ds ≡ true → ascends (insert w ds) ≡ true
   unfolding insert ascends ascendsFrom
   insert-ascends [] n e h = refl
   insert-ascends (v ∷ vs) n e h =
@@ -162,5 +162,5 @@ module _ (w : Device) where
   insert-count [] = refl
   insert-count (v ∷ vs) = both (lessBytes (w .id) (v .id)) (λ t. rw (t, insert)) (λ t. rw (t, insert) (ap suc (insert-count vs)))
 
-  pub insert-orderly : (d : ℕ) (ds : List Device) (n : ℕ) → find (w .id) ds ≡ refused n → isId (w .id) ≡ true → length ds < d → Invariant d ds → Invariant d (insert w ds)
+  pub insert-orderly : (d : ℕ) (ds : List Device) (n : Refusal) → find (w .id) ds ≡ refused n → isId (w .id) ≡ true → length ds < d → Invariant d ds → Invariant d (insert w ds)
   insert-orderly d ds n e i l o = record { ascending = insert-ascends ds n e (o .ascending); few = rw (insert-count ds) l; named = insert-ids ds i (o .named) }

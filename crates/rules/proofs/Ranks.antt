@@ -6,7 +6,7 @@ use mathlib.Core.Path.{_≡_, refl, ap, _∙_}
 use mathlib.Core.List.{List, [], _∷_, map}
 use mathlib.Core.Bool.{Bool, true, false}
 use lib.ListN.{length, getD, set}
-use Rattle.answer.specs.Answer.{refused, gives}
+use Rattle.answer.specs.Answer.{refused, gives, only}
 use Rattle.text.specs.Bytes.{eqBytes, lessBytes}
 use Rattle.text.proofs.Bytes.{both}
 use Rattle.memory.specs.Bytes.{removeAt, insertAt}
@@ -84,7 +84,7 @@ unfolding find firstAt
 find-rank id [] z h = absurd (not-suc-le-zero h)
 find-rank id (v ∷ vs) z h = both (eqBytes (v .id) id) (λ e. rw (e, find, firstAt)) (λ e. rw (e, find, firstAt) (find-rank id vs z (le-of-suc-le-suc (rw (e, firstAt) at h))))
 
-pub find-none : (id : List ℕ) (ds : List Device) → rankOf id ds ≡ length ds → find id ds ≡ refused 12
+pub find-none : (id : List ℕ) (ds : List Device) → rankOf id ds ≡ length ds → find id ds ≡ refused (only 12)
 unfolding find firstAt
 find-none id [] h = refl
 find-none id (v ∷ vs) h = both (eqBytes (v .id) id)
@@ -119,7 +119,7 @@ unfolding findProperty firstAt
 property-rank node id [] z h = absurd (not-suc-le-zero h)
 property-rank node id (p ∷ ps) z h = both (isNamed node id p) (λ e. rw (e, findProperty, firstAt)) (λ e. rw (e, findProperty, firstAt) (property-rank node id ps z (le-of-suc-le-suc (rw (e, firstAt) at h))))
 
-pub property-none : (node id : List ℕ) (ps : List Property) → rankOfProperty node id ps ≡ length ps → findProperty node id ps ≡ refused 16
+pub property-none : (node id : List ℕ) (ps : List Property) → rankOfProperty node id ps ≡ length ps → findProperty node id ps ≡ refused (only 16)
 unfolding findProperty firstAt
 property-none node id [] h = refl
 property-none node id (p ∷ ps) h = both (isNamed node id p)

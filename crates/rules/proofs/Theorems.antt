@@ -3,12 +3,11 @@ use Prim.Native.Nat.{ℕ, suc}
 use native.Mathlib.Omega.{arith}
 use mathlib.Core.Path.{_≡_, refl, ap}
 use mathlib.Core.List.{List}
-use mathlib.Core.Bool.{true, _&&_, _||_}
+use mathlib.Core.Bool.{true}
 use mathlib.Core.Option.{Option, none, some}
-use lib.Dec.{leb, eqb}
 use lib.ListN.{length}
 use Rattle.text.specs.Ascii.{ascii}
-use Rattle.answer.specs.Answer.{refused, gives}
+use Rattle.answer.specs.Answer.{refused, gives, only, Refusal}
 use Rattle.topic.specs.Form as form
 use Rattle.book.specs.Book as book
 use Rattle.rules.specs.declared.DeviceState.{DeviceState}
@@ -20,7 +19,7 @@ use Rattle.rules.specs.Find.{find}
 use Rattle.rules.specs.Messages.{Message, isEmpty, withDescription, describedBy, heldBy, obey, message}
 use Rattle.rules.specs.Questions.{Question, askLane, aLane, effective, reply}
 use Rattle.rules.specs.Rules.{rules, outcome}
-use Rattle.rules.specs.Promises.{Takes, ascends, haveIds, Invariant, NotBefore, updated, without, deviceIn, isReport, Proper}
+use Rattle.rules.specs.Promises.{Takes, ascends, haveIds, Invariant, NotBefore, updated, without, deviceIn, isReport, Proper, ofMessage, ofQuestion}
 use Rattle.rules.proofs.Answers.{Given, given}
 use Rattle.rules.proofs.Refusals.{message-refused, reply-refused}
 use Rattle.rules.proofs.Taken.{form-message, last-given, from-orderly, from-due}
@@ -62,9 +61,9 @@ module _ (domain : List ℕ) (d : ℕ) where
     state-word {id} {s} h e = effect (λ ds. find id ds ≡ gives (updated id s (x .time) (find id (t .devices)))) h (state-made d x (t .devices) id s e)
 
     -- "empty payload removes it"
-    pub state-empty : {id : List ℕ} → Takes domain d t x (form.state id) t′ → Invariant d (t .devices) → isEmpty (x .payload) ≡ true → find id (t′ .devices) ≡ refused 12
+    pub state-empty : {id : List ℕ} → Takes domain d t x (form.state id) t′ → Invariant d (t .devices) → isEmpty (x .payload) ≡ true → find id (t′ .devices) ≡ refused (only 12)
     unfolding obey
-    state-empty {id} h o e = effect (λ ds. find id ds ≡ refused 12) h (state-removed d x (t .devices) id (o .ascending) e)
+    state-empty {id} h o e = effect (λ ds. find id ds ≡ refused (only 12)) h (state-removed d x (t .devices) id (o .ascending) e)
 
     -- ".. and frees its room for any other": one device fewer is there
     pub state-frees : {id : List ℕ} → Takes domain d t x (form.state id) t′ → isEmpty (x .payload) ≡ true → suc (length (t′ .devices)) ≡ length (t .devices)
@@ -134,20 +133,20 @@ module _ (domain : List ℕ) (d : ℕ) where
   -- ---- refusals
 
   -- "A refused message using up a step": a refused message changes neither what memory means nor the book
-  pub refused-stays : (j n : ℕ) (s : book.State Table) (x : Message) → message domain d (s .now) x ≡ refused n → book.become (rules domain d) j s (book.message x) ≡ s
+  pub refused-stays : (j : ℕ) (n : Refusal) (s : book.State Table) (x : Message) → message domain d (s .now) x ≡ refused n → book.become (rules domain d) j s (book.message x) ≡ s
   unfolding outcome
   refused-stays j n s x e = ap (λ a. book.moved (rules domain d) j s (outcome a)) e
 
-  pub refused-unnoted : (j n : ℕ) (b : book.Book (rules domain d)) (x : Message) → message domain d (book.tableAfter (rules domain d) (b .standing)) x ≡ refused n → book.after (rules domain d) j b (book.message x) ≡ b
+  pub refused-unnoted : (j : ℕ) (n : Refusal) (b : book.Book (rules domain d)) (x : Message) → message domain d (book.tableAfter (rules domain d) (b .standing)) x ≡ refused n → book.after (rules domain d) j b (book.message x) ≡ b
   unfolding outcome
   refused-unnoted j n b x e = ap (λ a. book.noted (rules domain d) j b x (outcome a)) e
 
-  -- a message is refused with a number from 7 to 17
-  pub message-numbers : (t : Table) (x : Message) (n : ℕ) → message domain d t x ≡ refused n → (leb 7 n && leb n 17) ≡ true
+  -- a message is refused with a number from 7 to 17, or with what is told of a description
+  pub message-numbers : (t : Table) (x : Message) (r : Refusal) → message domain d t x ≡ refused r → ofMessage r ≡ true
   message-numbers = message-refused domain d
 
 -- "Questions: 6, 12, 16, 3 as they apply."
-pub question-numbers : (t : Table) (q : Question) (n : ℕ) → reply t q ≡ refused n → (eqb n 3 || (eqb n 12 || eqb n 16)) ≡ true
+pub question-numbers : (t : Table) (q : Question) (r : Refusal) → reply t q ≡ refused r → ofQuestion r ≡ true
 question-numbers = reply-refused
 
 -- ---- "Effective state: `lost` if the device has a root that is in the table with own state `lost`; else its own."

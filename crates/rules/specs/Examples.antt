@@ -5,7 +5,7 @@ use mathlib.Core.Bool.{true, false}
 use mathlib.Core.Option.{none, some}
 use Rattle.text.specs.Ascii.{ascii}
 use Rattle.payload.specs.declared.Datatype.the-variants as D
-use Rattle.answer.specs.Answer.{Answer, refused, gives}
+use Rattle.answer.specs.Answer.{Answer, refused, gives, only}
 use Rattle.book.specs.Book.{Call, message, question, steps}
 use Rattle.rules.specs.declared.DeviceState.the-variants.{Init}
 use Rattle.rules.specs.declared.LaneKind.the-variants as L
@@ -42,7 +42,7 @@ expected =
     gives taken
     ∷ gives taken
     ∷ gives taken
-    ∷ refused 14
+    ∷ refused (only 14)
     ∷ gives (aNumber 1)
     ∷ gives (anId lamp)
     ∷ gives (twoStates Init Init 4294967290)

@@ -3,13 +3,13 @@ use Prim.Native.Nat.{ℕ, zero, suc}
 use mathlib.Core.List.{List, [], _∷_}
 use mathlib.Core.Bool.{Bool, true, false, _&&_}
 use mathlib.Core.Option.{Option, none, some}
-use Rattle.answer.specs.Answer.{Answer, refused, gives}
+use Rattle.answer.specs.Answer.{Answer, refused, gives, only}
 use Rattle.text.specs.Bytes.{eqBytes, lessBytes}
 use Rattle.rules.specs.Table.{Property, Description, Device}
 
 -- 12: "device not in the table"
 unfoldable pub find : List ℕ → List Device → Answer Device
-find id [] = refused 12
+find id [] = refused (only 12)
 find id (v ∷ vs) = elim (eqBytes (v .id) id) [ true ↦ gives v | false ↦ find id vs ]
 
 -- that device changed
@@ -33,7 +33,7 @@ isNamed node id p = eqBytes (p .declared .node) node && eqBytes (p .declared .id
 
 -- 16: "no such property"
 unfoldable pub findProperty : List ℕ → List ℕ → List Property → Answer Property
-findProperty node id [] = refused 16
+findProperty node id [] = refused (only 16)
 findProperty node id (p ∷ ps) = elim (isNamed node id p) [ true ↦ gives p | false ↦ findProperty node id ps ]
 
 unfoldable pub changeProperty : List ℕ → List ℕ → (Property → Property) → List Property → List Property

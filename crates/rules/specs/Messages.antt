@@ -5,7 +5,7 @@ use mathlib.Core.Bool.{Bool, true, false, not, _&&_, _||_}
 use mathlib.Core.Option.{Option, none, some}
 use lib.ListN.{length}
 use lib.Dec.{leb, ltb}
-use Rattle.answer.specs.Answer.{Answer, refused, gives, require, andThen}
+use Rattle.answer.specs.Answer.{Answer, refused, gives, require, andThen, only}
 use Rattle.text.specs.Utf8.{isText}
 use Rattle.topic.specs.Form as form
 use Rattle.topic.specs.Topics.{readTopic}
@@ -46,7 +46,7 @@ makeOrUpdate d id s time ds (refused n) = require (ltb (length ds) d) 13 (gives 
 
 -- 14: "state word .. not valid"
 unfoldable pub byWord : ℕ → List ℕ → ℕ → List Device → Option DeviceState → Answer (List Device)
-byWord d id time ds none = refused 14
+byWord d id time ds none = refused (only 14)
 byWord d id time ds (some s) = makeOrUpdate d id s time ds (find id ds)
 
 -- "empty payload removes it and frees its room for any other"
@@ -56,7 +56,7 @@ obeyState d id x ds = elim (isEmpty (x .payload)) [
   | false ↦ byWord d id (x .time) ds (stateWorded (x .payload))
 ]
 
--- ---- description. "Description: 12, 15."
+-- ---- description: 12, then what is told of its faults (paper 02, K1: "15 gives way to 21 .. 25")
 
 abbrev pub withDescription : Option Description → Device → Device
 withDescription y v = record { id = v .id; state = v .state; time = v .time; description = y }

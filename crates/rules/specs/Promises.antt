@@ -2,10 +2,11 @@
 use Prim.Native.Nat.{ℕ, _≤_}
 use mathlib.Core.Path.{_≡_}
 use mathlib.Core.List.{List, [], _∷_, map}
-use mathlib.Core.Bool.{Bool, true, false, _&&_}
+use mathlib.Core.Bool.{Bool, true, false, _&&_, _||_}
 use mathlib.Core.Option.{Option, none, some}
 use lib.ListN.{length}
-use Rattle.answer.specs.Answer.{Answer, refused, gives}
+use lib.Dec.{leb, eqb}
+use Rattle.answer.specs.Answer.{Refusal, Answer, refused, gives}
 use Rattle.text.specs.Bytes.{lessBytes}
 use Rattle.text.specs.Ids.{isId}
 use Rattle.topic.specs.Form as form
@@ -101,3 +102,22 @@ allValid (p ∷ ps) = lanesValid p && allValid ps
 pub record Proper (id : List ℕ) (y : Description) : Type 0 where
   pub declares : Declares id (declaredIn y)
   pub lanes : allValid (y .properties) ≡ true
+
+-- ---- what is refused with which numbers
+
+-- "Message order: 6, 7, 8, 9, 10, 11 .." by form: a number from 7 to 17 alone; or what is told of a description (paper 02, K1), with its place
+abbrev pub tellsMessage : ℕ → List ℕ → Bool
+tellsMessage n [] = leb 7 n && leb n 17
+tellsMessage n (p ∷ []) = (leb 21 n && leb n 25) && leb p 8192
+tellsMessage n (p ∷ (q ∷ ps)) = false
+
+abbrev pub ofMessage : Refusal → Bool
+ofMessage r = tellsMessage (r .number) (r .tells)
+
+-- "Questions: 6, 12, 16, 3 as they apply.": a number alone
+abbrev pub tellsQuestion : ℕ → List ℕ → Bool
+tellsQuestion n [] = eqb n 3 || (eqb n 12 || eqb n 16)
+tellsQuestion n (p ∷ ps) = false
+
+abbrev pub ofQuestion : Refusal → Bool
+ofQuestion r = tellsQuestion (r .number) (r .tells)

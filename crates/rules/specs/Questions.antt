@@ -5,7 +5,7 @@ use mathlib.Core.Bool.{Bool, true, false, cond}
 use mathlib.Core.Option.{Option, none, some}
 use lib.ListN.{length}
 use lib.IntN.{ℤ}
-use Rattle.answer.specs.Answer.{Answer, refused, gives, andThen}
+use Rattle.answer.specs.Answer.{Answer, refused, gives, andThen, only}
 use Rattle.properties.specs.Property as declaration
 use Rattle.rules.specs.declared.DeviceState.{DeviceState}
 use Rattle.rules.specs.declared.DeviceState.the-variants.{Init, Ready, Disconnected, Sleeping, Lost}
@@ -44,7 +44,7 @@ pub data Value : Type 0 where
 
 -- 3: "event, device or property number not below the count"
 unfoldable pub at : {A : Type 0} → ℕ → List A → Answer A
-at i [] = refused 3
+at i [] = refused (only 3)
 at zero (x ∷ l) = gives x
 at (suc i) (x ∷ l) = at i l
 

@@ -1,7 +1,7 @@
 -- The rules of the paper, as the plain book takes them, for a table opened with a domain and at most d devices.
 use Prim.Native.Nat.{ℕ}
 use mathlib.Core.List.{List}
-use Rattle.answer.specs.Answer.{Answer, refused, gives}
+use Rattle.answer.specs.Answer.{Answer, refused, gives, only}
 use Rattle.book.specs.Book.{Outcome, refuses, takes, Rules}
 use Rattle.rules.specs.Table.{Table, noDevices}
 use Rattle.rules.specs.Messages.{Message, message}
@@ -21,6 +21,6 @@ rules domain d = record {
   judge = λ t x. outcome (message domain d t x);
   reply = λ t q. reply t q;
   taken = gives taken;
-  none = refused 18;
+  none = refused (only 18);
   offer = λ n. gives (aNumber n);
 }

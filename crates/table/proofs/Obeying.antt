@@ -7,17 +7,15 @@ use mathlib.Core.Bool.{Bool, true, false, false≢true}
 use mathlib.Core.Option.{Option, none, some}
 use lib.ListN.{length, getD, take, drop, length-drop}
 use lib.Seq.{take-all}
-use Rattle.answer.specs.Answer.{Answer, refused, gives, require, andThen}
-use Rattle.answer.proofs.Theorems.{require-holds, require-fails}
+use Rattle.answer.specs.Answer.{Refusal, Answer, refused, gives, andThen, only, placed}
+use Rattle.faults.specs.declared.Told.the-variants.{Nothing, At}
 use Rattle.topic.specs.Form.{Form}
 use Rattle.text.specs.Places.{bytesAt}
 use Rattle.text.specs.declared.Place.{Place}
 use Rattle.json.specs.Bytes.{ws}
-use Rattle.fields.specs.Fields.{holds}
-use Rattle.properties.specs.Property.{Property}
-use Rattle.properties.specs.Entries.{view}
-use Rattle.description.specs.Description.{Described, rules, describe, describedIn}
-use Rattle.description.specs.Meaning.{listed, meaning}
+use Rattle.description.specs.Description.{Described, describe, describedIn}
+use Rattle.description.specs.Meaning.{meaning}
+use Rattle.description.proofs.Theorems as declared
 use Rattle.description.specs.declared.Description.{Description}
 use Rattle.memory.specs.Bytes.{removeAt, insertAt}
 use Rattle.memory.specs.Layout.{roomSize}
@@ -65,13 +63,13 @@ module _ (domain : List ℕ) (d : ℕ) (t : Table) (x : Message) where
   unfolding andThen
   taken-as ds e = by-devices ∙ ap (λ (a : Answer (List Device)). andThen a (λ l. gives (since (x .time) l))) e
 
-  pub refused-as : (n : ℕ) → obeyed domain d t x ≡ refused n → rule.message domain d t x ≡ refused n
+  pub refused-as : (n : Refusal) → obeyed domain d t x ≡ refused n → rule.message domain d t x ≡ refused n
   unfolding andThen
   refused-as n e = by-devices ∙ ap (λ (a : Answer (List Device)). andThen a (λ l. gives (since (x .time) l))) e
 
 -- ---- a refusal
 
-pub refuses : (m : List ℕ) (x : Message) (n : ℕ) → Sound m → obeyed (openingOf m .domain) (openingOf m .devices) (means m .now) x ≡ refused n → Did (message x) m m (refused n)
+pub refuses : (m : List ℕ) (x : Message) (n : Refusal) → Sound m → obeyed (openingOf m .domain) (openingOf m .devices) (means m .now) x ≡ refused n → Did (message x) m m (refused n)
 unfolding isTaken outcome
 refuses m x n s e = left (message x) m (refused n) s (rw (refused-as (openingOf m .domain) (openingOf m .devices) (means m .now) x n e)) refl
 
@@ -143,25 +141,6 @@ module _ (m : List ℕ) (rank offset : ℕ) (bytes : List ℕ) (time : ℕ) (m�
 
 -- ---- a description
 
--- a description that is not taken is refused with 15, and one that is taken declares something
-is-refused : (own s : List ℕ) (d : Description) → meaning s d ≡ describe own s → d .taken ≡ false → describe own s ≡ refused 15
-unfolding meaning
-is-refused own s d e f = sym e ∙ require-fails (d .taken) 15 _ f
-
-never-fifteen : (s : List ℕ) (d : Description) (v : Option (List Property)) → listed s d v ≡ refused 15 → ⊥
-unfolding listed
-never-fifteen s d none e = let z : _≡_ {A = ℕ} 0 15 = cc in absurd (omega arith)
-never-fifteen s d (some ps) e = let z : _≡_ {A = ℕ} 0 1 = cc in absurd (omega arith)
-
-declares : (b : Bool) (y : Described) (a : Answer Described) → a ≡ require b 15 (gives y) → (a ≡ refused 15 → ⊥) → require b 15 (gives y) ≡ gives y
-unfolding require
-declares true y a e h = refl
-declares false y a e h = absurd (h e)
-
-is-taken : (own s : List ℕ) (d : Description) → meaning s d ≡ describe own s → d .taken ≡ true → describe own s ≡ gives (describedIn s (ws s 0))
-unfolding meaning describe
-is-taken own s d e t = declares (holds (rules own s)) (describedIn s (ws s 0)) (listed s d (view s (d .properties))) (sym (require-holds (d .taken) 15 _ t) ∙ e) (never-fifteen s d (view s (d .properties)))
-
 module _ (m : List ℕ) (rank : ℕ) (id payload : List ℕ) (time : ℕ) (d : Description) (e : meaning payload d ≡ describe id payload) where
   abbrev new : Described → Answer (List Device)
   new y = gives (changeAt rank (withDescription (some (newDescription y))) (devicesIn m))
@@ -171,18 +150,18 @@ module _ (m : List ℕ) (rank : ℕ) (id payload : List ℕ) (time : ℕ) (d : D
   unfolding makes
   by-description x p a z q g j = sym (j .says) ∙ ap (λ (u : List ℕ). andThen (describe u (x .payload)) new) (sym q) ∙ ap (λ (u : List ℕ). andThen (describe id u) new) z ∙ ap (λ (u : Answer Described). andThen u new) g
 
-  pub described-not : d .taken ≡ false → Describes m rank id payload time m (refused 15)
+  pub described-not : (place number : ℕ) → d .told ≡ At place number → Describes m rank id payload time m (refused (placed number place))
   unfolding andThen
-  described-not f topic retained p q s j = let x = sent time topic retained payload in refuses m x 15 s (by-description x p (refused 15) refl q (is-refused id payload d e f) j)
+  described-not place number f topic retained p q s j = let x = sent time topic retained payload in refuses m x (placed number place) s (by-description x p (refused (placed number place)) refl q (declared.not-taken id payload d e f) j)
 
-  pub described : d .taken ≡ true → (image : List ℕ) → length image ≡ roomSize → Imprinted payload d image → (m′ : List ℕ) (o : Answer Value)
+  pub described : d .told ≡ Nothing → (image : List ℕ) → length image ≡ roomSize → Imprinted payload d image → (m′ : List ℕ) (o : Answer Value)
       → (n : ℕ) → Patches m rank describedAt (take n (drop describedAt image)) time m′ o → length image ≤ n + describedAt → Describes m rank id payload time m′ o
   unfolding andThen
   described t image l k m′ o n w b topic retained p q s j =
       let h = subst (λ (u : List ℕ). Patches m rank describedAt u time m′ o) (take-all n (drop describedAt image) (omega (arith, length-drop describedAt image))) w in
       let x = sent time topic retained payload in
       let y = describedIn payload (ws payload 0) in
-      let g = is-taken id payload d e t in
+      let g = declared.taken id payload d e t in
       h s (j .fits) (omega (arith, length-drop describedAt image)) (withDescription (some (newDescription y))) (imprint.makes id payload image d y e g k) x refl (by-description x p (gives y) refl q g j)
 
 -- ---- the verdict on a message
@@ -191,6 +170,6 @@ module _ (m : List ℕ) (x : Message) (v : Verdict) (s : Sound m) (j : Verdicts 
   pub carried : (m′ : List ℕ) (o : Answer Value) (w : Verdict) → v ≡ w → Obeys m x w m′ o → Did (message x) m m′ o
   carried m′ o w e h = h s (subst (Verdicts m x) e j)
 
-  pub not-carried : (n : ℕ) → v ≡ verdict.Refused n → Did (message x) m m (refused n)
+  pub not-carried : (n : ℕ) → v ≡ verdict.Refused n → Did (message x) m m (refused (only n))
   unfolding makes
-  not-carried n e = refuses m x n s (sym (j .says) ∙ ap (makes x (devicesIn m)) e)
+  not-carried n e = refuses m x (only n) s (sym (j .says) ∙ ap (makes x (devicesIn m)) e)

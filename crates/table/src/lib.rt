@@ -15,10 +15,11 @@ use writing::remove;
 use writing::set_state;
 use writing::undescribe;
 
-// Taken, or the refusal's number.
+// Taken, or the refusal's number; of a description that is not valid, the number and the byte place.
 pub enum Outcome {
     Taken,
     Refused(u8),
+    Faulty(u8, usize),
 }
 
 // The steps on offer, or the refusal's number.
@@ -44,7 +45,7 @@ pub fn open(mem: &mut [u8], domain: &[u8], d: usize, j: usize) -> Outcome
     Outcome::Taken
 }
 
-// Sends a finished message. Refused: 6 where memory is not sound, then 7 to 17 in the paper's order.
+// Sends a finished message. Refused: 6 where memory is not sound, then 7 to 17 in the paper's order, and 21 to 25 for a description.
 pub fn message(mem: &mut [u8], time: u64, topic: &[u8], retained: bool, payload: &[u8]) -> Outcome
     ensures { λ r. ⌜ Did (message (sent time (now (topic .entry)) retained (now (payload .entry)))) (now (mem .entry)) (now (mem .exit)) (said r) ⌝ }
 {

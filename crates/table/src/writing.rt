@@ -5,6 +5,7 @@ ghost use Rattle.table.specs.Parts.{Carries, Fills, Creates, Describes, 
 use crate::Outcome;
 use device::DESCRIBED;
 use device::STATE;
+use faults::Told;
 use rules::DeviceState;
 use rules::LaneKind;
 
@@ -92,13 +93,14 @@ pub(crate) fn fill(
     patch(mem, rank, offset, &bytes, time)
 }
 
-// "description: replaces what the device has; all lanes become empty." Refused: 15.
+// "description: replaces what the device has; all lanes become empty." Refused: what is told of it.
 pub(crate) fn describe(mem: &mut [u8], rank: u8, id: &[u8], payload: &[u8], time: u64) -> Outcome
     ensures { λ r. ⌜ Describes (now (mem .entry)) rank (now (id .entry)) (now (payload .entry)) time (now (mem .exit)) (said r) ⌝ }
 {
     let d = description::describe(id, payload);
-    if !d.taken {
-        return Outcome::Refused(15);
+    let told = d.told;
+    if let Told::At(place, number) = told {
+        return Outcome::Faulty(number, place);
     }
     let image = imprint::description(payload, d);
     patch(mem, rank, DESCRIBED, &image[DESCRIBED..], time)

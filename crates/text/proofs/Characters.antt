@@ -7,7 +7,8 @@ use mathlib.Core.Bool.{true, false}
 use lib.ListN.{length, drop, getD}
 use lib.Dec.{leb}
 use borrow.Author.Tests.{le-leb, lt-leb, leb-true, leb-false}
-use Rattle.text.specs.Parts.{Decides, Due, due, ready, never, low, high, first, next, utf8From, ByteIn, Begins, Passes, Ascii, AsciiRun}
+use Rattle.text.specs.Utf8Place.{Due, due, ready, never, low, high, first, next}
+use Rattle.text.specs.Parts.{Decides, utf8From, ByteIn, Begins, Passes, Ascii, AsciiRun}
 use Rattle.text.proofs.Steps.{extra, first-1, first-2, first-long, next-ready, never-ends, at-end, one-byte, due-in, due-out}
 
 pub byte-decides : (s : List ℕ) (i lo hi : ℕ) → i < length s → lo ≤ getD s i 0 → Decides (ByteIn s i lo hi) (leb (getD s i 0) hi)

@@ -13,4 +13,5 @@ pub mod Characters
 pub mod Utf8
 pub mod Scalars
 pub mod Rule10
+pub mod Utf8Place
 pub mod Theorems

@@ -1,5 +1,5 @@
 -- What is due after each byte.
-use Prim.Native.Nat.{ℕ, zero, suc, _+_, _≤_, _<_}
+use Prim.Native.Nat.{ℕ, zero, suc, _+_, _-_, _≤_, _<_}
 use native.Mathlib.Numerals.{add-one}
 use native.Mathlib.Omega.{arith}
 use mathlib.Core.Path.{_≡_, refl, ap, _∙_}
@@ -9,7 +9,8 @@ use lib.Dec.{leb, eqb}
 use lib.ListN.{length, drop, getD, drop-of-length-le}
 use lib.Seq.{drop-cons}
 use borrow.Author.Tests.{le-leb, lt-leb, eq-eqb, ne-eqb}
-use Rattle.text.specs.Parts.{Due, due, ready, never, low, high, first, later, next, utf8From, ByteIn}
+use Rattle.text.specs.Utf8Place.{Due, due, ready, never, low, high, first, later, next}
+use Rattle.text.specs.Parts.{utf8From, ByteIn}
 use Rattle.text.proofs.Bytes.{at-most}
 
 -- the bytes due beyond three
@@ -89,13 +90,17 @@ module _ (b : ℕ) where
     unfolding next later
     next-ready e = rw e
 
-    next-low : 0 < d .count → b < d .lo → next d b ≡ never
+    pub next-low : 0 < d .count → b < d .lo → next d b ≡ never
     unfolding next
     next-low p h = later-low (d .count) (d .lo) (d .hi) p h
 
-    next-high : 0 < d .count → d .lo ≤ b → d .hi < b → next d b ≡ never
+    pub next-high : 0 < d .count → d .lo ≤ b → d .hi < b → next d b ≡ never
     unfolding next
     next-high p h k = later-high (d .count) (d .lo) (d .hi) p h k
+
+    pub next-in : 0 < d .count → d .lo ≤ b → b ≤ d .hi → next d b ≡ due (d .count - 1) 0x80 0xBF
+    unfolding next
+    next-in p h k = later-in (d .count) (d .count - 1) (d .lo) (d .hi) (omega arith) h k
 
 -- nothing follows `never`
 never-next : (b : ℕ) → next never b ≡ never

@@ -2,10 +2,11 @@
 use Prim.Native.Nat.{ℕ, _≤_, _<_}
 use mathlib.Core.Path.{_≡_, refl}
 use mathlib.Core.Logic.{_↔_}
-use mathlib.Core.List.{List, [], _∷_}
+use mathlib.Core.List.{List, [], _∷_, map}
 use mathlib.Core.Bool.{true, false}
 use lib.ListN.{length, drop, replicate}
 use Rattle.abnf.specs.Abnf.{_∈_}
+use Rattle.abnf.specs.Place.{Furthest, FirstBad}
 use Rattle.text.specs.Bytes.{eqBytes, lessBytes, every, slice, Compared}
 use Rattle.text.specs.Split.{split, joinBy, partAt, AllFree, Splits}
 use Rattle.text.specs.Scalars.{Encoding}
@@ -15,11 +16,13 @@ use Rattle.text.proofs.Split.{is-part, split-more, split-last}
 use Rattle.text.specs.Ids.{idByte, isId, ID, idBytes, readId}
 use Rattle.abnf.specs.Accepts.{isEmpty, again, starts, accepts}
 use Rattle.text.specs.Utf8.{UTF8-char, UTF8-octets, isUtf8, isText}
+use Rattle.text.specs.Utf8Place.{Utf8, low, high, first, later, next, utf8Reach, utf8Place}
 use Rattle.text.proofs.Order.{less-transitive, trichotomy}
 use Rattle.text.proofs.Joins.{splits, split-join}
 use Rattle.text.proofs.Ids.{read-back}
 use Rattle.text.proofs.IdGrammar.{isId-is}
 use Rattle.text.proofs.Utf8.{isUtf8-is}
+use Rattle.text.proofs.Utf8Place.{utf8-reach, utf8-first-bad}
 use Rattle.text.proofs.Scalars.{char-is}
 use Rattle.text.proofs.Rule10.{isText-is}
 
@@ -109,6 +112,21 @@ cut-short = refl
 pub euro : isUtf8 (0xE2 ∷ 0x82 ∷ 0xAC ∷ []) ≡ true
 unfolding isUtf8 accepts starts again isEmpty
 euro = refl
+
+-- ---- where bytes stop being UTF-8 (paper 02, K1)
+
+-- what stands before the place can go on as UTF-8, and with the byte there it cannot
+pub utf8-furthest : (s : List ℕ) → Furthest Utf8 s (utf8Place s)
+utf8-furthest = utf8-reach
+
+-- of bytes that are not UTF-8 it is the first byte at which no valid continuation exists, and no other is
+pub utf8-bad : (s : List ℕ) (p : ℕ) → isUtf8 s ≡ false → (p ≡ utf8Place s) ↔ FirstBad Utf8 s p
+utf8-bad = utf8-first-bad
+
+-- a second byte that is no tail; the euro sign cut short; a surrogate; an overlong form; the place after what is UTF-8
+pub utf8-places : map utf8Place ((0x22 ∷ 0xC3 ∷ 0x28 ∷ []) ∷ (0xE2 ∷ 0x82 ∷ []) ∷ (0x61 ∷ 0xED ∷ 0xA0 ∷ 0x80 ∷ []) ∷ (0xC0 ∷ 0xAF ∷ []) ∷ (0xE2 ∷ 0x82 ∷ 0xAC ∷ []) ∷ []) ≡ 2 ∷ 2 ∷ 2 ∷ 0 ∷ 3 ∷ []
+unfolding utf8Place utf8Reach next later first low high
+utf8-places = refl
 
 -- ---- rule 10 (paper 01, "Refusal numbers")
 

@@ -10,7 +10,8 @@ use Rattle.abnf.specs.Abnf.{Abnf, _–_, _·_, _∈_, noRules}
 use Rattle.abnf.proofs.Theorems.{accepts-is}
 use Rattle.abnf.proofs.Lead.{Lead, Many, over, again, whole-lead, lead-whole}
 use Rattle.abnf.specs.Accepts.{inRange}
-use Rattle.text.specs.Parts.{Due, due, ready, never, low, high, first, later, next, utf8From}
+use Rattle.text.specs.Utf8Place.{Due, due, ready, never, low, high, first, later, next}
+use Rattle.text.specs.Parts.{utf8From}
 use Rattle.text.specs.Utf8.{UTF8-tail, UTF8-3, UTF8-4, UTF8-char, UTF8-octets, isUtf8}
 use Rattle.text.proofs.Bytes.{both, at-most, in-range}
 use Rattle.text.proofs.Steps.{low-E0, low-F0, low-other, high-ED, high-F4, high-other, first-1, first-tail, first-2, first-3, first-4, first-over}

@@ -5,4 +5,5 @@ pub mod Split
 pub mod Ids
 pub mod Parts
 pub mod Utf8
+pub mod Utf8Place
 pub mod Scalars

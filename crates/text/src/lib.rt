@@ -7,7 +7,8 @@ ghost use mathlib.Core.Logic.{_↔_};
 ghost use mathlib.Core.Bool.{true};
 ghost use Rattle.abnf.specs.Abnf.{_∈_};
 ghost use Rattle.text.specs.Utf8.{UTF8-octets, startsBom, isText};
-ghost use Rattle.text.specs.Parts.{Decides, Shorter, IdBytes, Ascii, AsciiRun, low, high, ByteIn, Begins, Reads};
+ghost use Rattle.text.specs.Parts.{Decides, Shorter, IdBytes, Ascii, AsciiRun, ByteIn, Begins, Reads, Following};
+ghost use Rattle.text.specs.Utf8Place.{low, high, utf8Place};
 ghost use Prim.Native.Nat.{_+_, _≤_, _<_};
 ghost use lib.ListN.{length, getD};
 
@@ -467,4 +468,59 @@ pub fn is_text(s: &[u8]) -> bool
         return false;
     }
     is_utf8(s)
+}
+
+// How many bytes follow a first byte in its character; 4 where no character begins with it.
+fn following(b: u8) -> u8
+    ensures { λ r. ⌜ Following b r ⌝ }
+{
+    if b <= 0x7F {
+        return 0;
+    }
+    if b <= 0xC1 {
+        return 4;
+    }
+    if b <= 0xDF {
+        return 1;
+    }
+    if b <= 0xEF {
+        return 2;
+    }
+    if b <= 0xF4 {
+        return 3;
+    }
+    4
+}
+
+// The first byte at which the bytes cannot go on as UTF-8; their length where they are UTF-8 or end within a character.
+pub fn utf8_place(s: &[u8]) -> usize
+    ensures { λ r. ⌜ r ≡ utf8Place (now (s .entry)) ⌝ }
+{
+    let mut count = 0;
+    let mut lo = 0x80;
+    let mut hi = 0xBF;
+    let mut i = 0;
+    while i < s.len() {
+        let b = s[i];
+        if count == 0 {
+            count = following(b);
+            if count > 3 {
+                return i;
+            }
+            lo = least(b);
+            hi = most(b);
+        } else {
+            if b < lo {
+                return i;
+            }
+            if b > hi {
+                return i;
+            }
+            count -= 1;
+            lo = 0x80;
+            hi = 0xBF;
+        }
+        i += 1;
+    }
+    i
 }

@@ -10,7 +10,7 @@ use native.Mathlib.Nat.{sub-self}
 use native.Mathlib.Numerals.{add-one}
 use Rattle.text.proofs.Slices.{slice-length}
 use Rattle.text.proofs.Split.{is-none}
-use Rattle.answer.specs.Answer.{Answer, refused, gives, require}
+use Rattle.answer.specs.Answer.{Answer, refused, gives, require, only}
 use Rattle.text.specs.declared.Part.the-variants.{Found, Nothing}
 use Rattle.text.specs.Bytes.{eqBytes, slice}
 use Rattle.text.specs.Split.{split, partAt}
@@ -29,7 +29,7 @@ use Rattle.topic.proofs.Levels.{levels-here, levels-past, levels-more, 
 use Rattle.topic.proofs.Rows.{free, no-levels, no-device, broadcast-row, broadcast-bad, broadcast-none, device-alone, node-alone, node-bad, value-row, set-row, target-row, property-bad, property-long, state-fits, description-fits, alert-fits, log-fits, other-fits}
 
 -- an answer without places
-pub refuse : (t : List ℕ) {b : ℕ} (n : ℕ) (a : Answer Form) → a ≡ refused n → Shows t b a (Refused n)
+pub refuse : (t : List ℕ) {b : ℕ} (n : ℕ) (a : Answer Form) → a ≡ refused (only n) → Shows t b a (Refused n)
 unfolding meaning
 refuse t n a e = record { says = sym e; places = tt; stand = tt }
 
@@ -76,13 +76,13 @@ module _ (t : List ℕ) (d : Place) (at : ℕ) (i : IdAt t d) where
 
 -- a device and a word that one level follows: `$alert`, `$log`
 module _ (t d : List ℕ) (at b : ℕ) (w : List ℕ) (test : List ℕ → Bool) (make : List ℕ → Form)
-    (row : (ls : List (List ℕ)) → formOf (d ∷ w ∷ ls) ≡ (when fits (test ∷ []) end ls give make (level ls 0) else refused 9)) where
+    (row : (ls : List (List ℕ)) → formOf (d ∷ w ∷ ls) ≡ (when fits (test ∷ []) end ls give make (level ls 0) else refused (only 9))) where
   pub one-none : Nothing ≡ partAt slash t at → Shows t b (formOf (d ∷ w ∷ levelsFrom t at)) (Refused 9)
   unfolding when_give_else_ fits
   one-none q = refuse t 9 _ (row (levelsFrom t at) ∙ rw (levels-none t at q))
 
   module _ (s e n : ℕ) (q : Found s e n ≡ partAt slash t at) where
-    one-fits : formOf (d ∷ w ∷ levelsFrom t at) ≡ (when (test (slice t s e) && end (levelsFrom t n)) give make (slice t s e) else refused 9)
+    one-fits : formOf (d ∷ w ∷ levelsFrom t at) ≡ (when (test (slice t s e) && end (levelsFrom t n)) give make (slice t s e) else refused (only 9))
     unfolding fits
     one-fits = row (levelsFrom t at) ∙ rw (levels-step t at s e n q)
 
@@ -227,7 +227,7 @@ pub dollar-place : (t : List ℕ) (s e : ℕ) → dollarId (slice t s e) ≡ tru
 dollar-place t s e h = omega (arith, dollar-some (slice t s e) h, length-take (e - s) (drop s t))
 
 module _ (t : List ℕ) (d w : Place) (at : ℕ) (i : IdAt t d) (j : WordAt t w) (f : oneOf reserved (bytesAt t w) ≡ false) (a : Next d (w .start)) (b : Next w at) where
-  word-fits : formOf (bytesAt t d ∷ bytesAt t w ∷ levelsFrom t at) ≡ (when (dollarId (bytesAt t w) && each filled (levelsFrom t at)) give other (bytesAt t d) (drop 1 (bytesAt t w)) (levelsFrom t at) else refused 9)
+  word-fits : formOf (bytesAt t d ∷ bytesAt t w ∷ levelsFrom t at) ≡ (when (dollarId (bytesAt t w) && each filled (levelsFrom t at)) give other (bytesAt t d) (drop 1 (bytesAt t w)) (levelsFrom t at) else refused (only 9))
   unfolding otherWord
   word-fits = other-fits (bytesAt t d) (i .id) (levelsFrom t at) (bytesAt t w) (free (bytesAt t w) f) (j .noId) ∙ rw (f, and-true (dollarId (bytesAt t w)))
 
@@ -309,7 +309,7 @@ module _ (d t : List ℕ) (s e n : ℕ) (q : Found s e n ≡ partAt slash t 0) w
   unfolding readTopic
   first = rw (all-levels t, levels-step t 0 s e n q)
 
-  other-domain : (l : List ℕ) (ls : List (List ℕ)) → eqBytes l d ≡ false → readLevels d (l ∷ ls) ≡ refused 8
+  other-domain : (l : List ℕ) (ls : List (List ℕ)) → eqBytes l d ≡ false → readLevels d (l ∷ ls) ≡ refused (only 8)
   unfolding readLevels require
   other-domain l [] f = refl
   other-domain l (m ∷ ls) f = rw f

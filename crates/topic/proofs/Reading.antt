@@ -1,10 +1,11 @@
 -- A whole topic: its answer by the first two levels and the form of the rest.
 use Prim.Native.Nat.{ℕ}
-use mathlib.Core.Path.{_≡_, refl, sym, _∙_}
+use mathlib.Core.Path.{_≡_, refl, sym, ap, _∙_}
 use mathlib.Core.List.{List, [], _∷_}
 use mathlib.Core.Bool.{Bool, true, false}
 use native.Mathlib.Omega.{arith}
-use Rattle.answer.specs.Answer.{Answer, refused, gives, require}
+use Rattle.answer.specs.Answer.{Answer, refused, gives, require, only, Refusal}
+use Rattle.answer.proofs.Theorems.{same-number}
 use Rattle.text.specs.Bytes.{eqBytes}
 use Rattle.text.specs.Split.{split}
 use Rattle.text.proofs.Bytes.{both, eqBytes-true, eqBytes-false, eqBytes-refl}
@@ -18,7 +19,7 @@ use Rattle.topic.proofs.Table.{complete, sound}
 
 -- the only refusal
 OnlyNine : Answer Form → Type 0
-OnlyNine a = (n : ℕ) → a ≡ refused n → n ≡ 9
+OnlyNine a = (n : Refusal) → a ≡ refused n → n ≡ only 9
 
 only-row : (b : Bool) (f : Form) (a : Answer Form) → OnlyNine a → OnlyNine (when b give f else a)
 unfolding OnlyNine when_give_else_
@@ -30,15 +31,15 @@ unfolding OnlyNine formOf
 only-nine ls =
     only-row _ _ _ (only-row _ _ _ (only-row _ _ _ (only-row _ _ _ (only-row _ _ _ (only-row _ _ _ (only-row _ _ _ (only-row _ _ _ (only-row _ _ _ (λ n e. cc)))))))))
 
-pub no-form : (ls : List (List ℕ)) → ((f : Form) → HasForm ls f → ⊥) → formOf ls ≡ refused 9
+pub no-form : (ls : List (List ℕ)) → ((f : Form) → HasForm ls f → ⊥) → formOf ls ≡ refused (only 9)
 unfolding OnlyNine
 no-form ls h = go (formOf ls) refl
   where
-    go : (a : Answer Form) → formOf ls ≡ a → formOf ls ≡ refused 9
+    go : (a : Answer Form) → formOf ls ≡ a → formOf ls ≡ refused (only 9)
     go (refused n) e = rw (only-nine ls n e) at e
     go (gives f) e = absurd (h f (sound ls f e))
 
-pub nine-none : (ls : List (List ℕ)) (f : Form) → formOf ls ≡ refused 9 → HasForm ls f → ⊥
+pub nine-none : (ls : List (List ℕ)) (f : Form) → formOf ls ≡ refused (only 9) → HasForm ls f → ⊥
 nine-none ls f e h = let g = complete h in let z : _≡_ {A = ℕ} 0 1 = cc in omega arith
 
 -- ---- the first two levels
@@ -53,7 +54,7 @@ read-below d t ls e = rw e (read-form d ls)
 
 -- they are the domain and `5`, or not
 module _ {X : Type 0} (d t : List ℕ) (yes : (ls : List (List ℕ)) → split slash t ≡ d ∷ five ∷ ls → X)
-    (no : ((ls : List (List ℕ)) → split slash t ≡ d ∷ five ∷ ls → ⊥) → readTopic d t ≡ refused 8 → X) where
+    (no : ((ls : List (List ℕ)) → split slash t ≡ d ∷ five ∷ ls → ⊥) → readTopic d t ≡ refused (only 8) → X) where
   by-levels : (ls : List (List ℕ)) → split slash t ≡ ls → X
   unfolding readTopic readLevels require
   by-levels [] e = no (λ ls q. let z : _≡_ {A = ℕ} 0 1 = cc in omega arith) (rw e)
@@ -77,17 +78,17 @@ read-gives d t f e = read-cases d t
 pub gives-read : (d t : List ℕ) (f : Form) → HasTopicForm d t f → readTopic d t ≡ gives f
 gives-read d t f h = read-below d t (h .rest) (h .levels) ∙ complete (h .form)
 
-pub read-eight : (d t : List ℕ) → readTopic d t ≡ refused 8 → (ls : List (List ℕ)) → split slash t ≡ d ∷ five ∷ ls → ⊥
+pub read-eight : (d t : List ℕ) → readTopic d t ≡ refused (only 8) → (ls : List (List ℕ)) → split slash t ≡ d ∷ five ∷ ls → ⊥
 unfolding OnlyNine
-read-eight d t e ls q = let z : _≡_ {A = ℕ} 8 9 = only-nine ls 8 (sym (read-below d t ls q) ∙ e) in omega arith
+read-eight d t e ls q = let z : _≡_ {A = ℕ} 8 9 = ap (λ (r : Refusal). r .number) (only-nine ls (only 8) (sym (read-below d t ls q) ∙ e)) in omega arith
 
-pub eight-read : (d t : List ℕ) → ((ls : List (List ℕ)) → split slash t ≡ d ∷ five ∷ ls → ⊥) → readTopic d t ≡ refused 8
+pub eight-read : (d t : List ℕ) → ((ls : List (List ℕ)) → split slash t ≡ d ∷ five ∷ ls → ⊥) → readTopic d t ≡ refused (only 8)
 eight-read d t h = read-cases d t (λ ls q. absurd (h ls q)) (λ n q. q)
 
-pub read-nine : (d t : List ℕ) → readTopic d t ≡ refused 9 → (ls : List (List ℕ)) × (split slash t ≡ d ∷ five ∷ ls) × ((f : Form) → HasForm ls f → ⊥)
+pub read-nine : (d t : List ℕ) → readTopic d t ≡ refused (only 9) → (ls : List (List ℕ)) × (split slash t ≡ d ∷ five ∷ ls) × ((f : Form) → HasForm ls f → ⊥)
 read-nine d t e = read-cases d t
     (λ ls q. (ls, q, λ f h. nine-none ls f (sym (read-below d t ls q) ∙ e) h))
-    (λ n q. let z : _≡_ {A = ℕ} 8 9 = cc in absurd (omega arith))
+    (λ n q. let z : _≡_ {A = ℕ} 8 9 = same-number {A = Form} {r = only 8} {r′ = only 9} (sym q ∙ e) in absurd (omega arith))
 
-pub nine-read : (d t : List ℕ) (ls : List (List ℕ)) → split slash t ≡ d ∷ five ∷ ls → ((f : Form) → HasForm ls f → ⊥) → readTopic d t ≡ refused 9
+pub nine-read : (d t : List ℕ) (ls : List (List ℕ)) → split slash t ≡ d ∷ five ∷ ls → ((f : Form) → HasForm ls f → ⊥) → readTopic d t ≡ refused (only 9)
 nine-read d t ls q h = read-below d t ls q ∙ no-form ls h

@@ -6,7 +6,7 @@ use mathlib.Core.Bool.{Bool, true, false, _&&_, _||_, false≢true, and-false}
 use lib.Dec.{eqb}
 use lib.ListN.{drop}
 use borrow.Author.Tests.{eqb-true}
-use Rattle.answer.specs.Answer.{refused, gives}
+use Rattle.answer.specs.Answer.{refused, gives, only}
 use Rattle.text.specs.Bytes.{eqBytes, every}
 use Rattle.text.specs.Ids.{isId, idByte}
 use Rattle.text.proofs.Bytes.{both, eqBytes-no}
@@ -67,18 +67,18 @@ id-free l h = record { state = id-no-word l h (drop 1 $state); description = id-
 
 -- ---- the rows
 
-pub no-levels : formOf [] ≡ refused 9
+pub no-levels : formOf [] ≡ refused (only 9)
 unfolding formOf fits when_give_else_
 no-levels = refl
 
 -- neither an ID nor `$broadcast`
-pub no-device : (d : List ℕ) (ls : List (List ℕ)) → eqBytes d $broadcast ≡ false → isId d ≡ false → formOf (d ∷ ls) ≡ refused 9
+pub no-device : (d : List ℕ) (ls : List (List ℕ)) → eqBytes d $broadcast ≡ false → isId d ≡ false → formOf (d ∷ ls) ≡ refused (only 9)
 unfolding formOf fits when_give_else_ is
 no-device d ls hb hd = simp (hd, hb)
 
 -- `$broadcast`
 module _ (ls : List (List ℕ)) where
-  broadcast-fits : formOf ($broadcast ∷ ls) ≡ (when fits (isId ∷ []) (each isId) ls give broadcast ls else refused 9)
+  broadcast-fits : formOf ($broadcast ∷ ls) ≡ (when fits (isId ∷ []) (each isId) ls give broadcast ls else refused (only 9))
   unfolding formOf fits when_give_else_ is eqBytes
   broadcast-fits = simp (dollar-no-id (drop 1 $broadcast))
 
@@ -87,12 +87,12 @@ unfolding fits when_give_else_ end each
 broadcast-row [] h k = absurd (false≢true (sym h))
 broadcast-row (l ∷ ls) h k = broadcast-fits (l ∷ ls) ∙ rw k
 
-pub broadcast-bad : (ls : List (List ℕ)) → each isId ls ≡ false → formOf ($broadcast ∷ ls) ≡ refused 9
+pub broadcast-bad : (ls : List (List ℕ)) → each isId ls ≡ false → formOf ($broadcast ∷ ls) ≡ refused (only 9)
 unfolding fits when_give_else_ each
 broadcast-bad [] k = broadcast-fits []
 broadcast-bad (l ∷ ls) k = broadcast-fits (l ∷ ls) ∙ rw k
 
-pub broadcast-none : formOf ($broadcast ∷ []) ≡ refused 9
+pub broadcast-none : formOf ($broadcast ∷ []) ≡ refused (only 9)
 unfolding fits when_give_else_
 broadcast-none = broadcast-fits []
 
@@ -101,7 +101,7 @@ module _ (d : List ℕ) (hd : isId d ≡ true) where
   hb : eqBytes d $broadcast ≡ false
   hb = id-no-word d hd (drop 1 $broadcast)
 
-  pub device-alone : formOf (d ∷ []) ≡ refused 9
+  pub device-alone : formOf (d ∷ []) ≡ refused (only 9)
   unfolding formOf fits when_give_else_ is
   device-alone = simp (hd, hb)
 
@@ -110,11 +110,11 @@ module _ (d : List ℕ) (hd : isId d ≡ true) where
     hf : Free n
     hf = id-free n hn
 
-    pub node-alone : formOf (d ∷ n ∷ []) ≡ refused 9
+    pub node-alone : formOf (d ∷ n ∷ []) ≡ refused (only 9)
     unfolding formOf fits when_give_else_ is
     node-alone = simp (hd, hn, hb, hf .state, hf .description, hf .alert, hf .log, id-no-other n hn)
 
-    pub node-bad : (p : List ℕ) (ls : List (List ℕ)) → isId p ≡ false → formOf (d ∷ n ∷ p ∷ ls) ≡ refused 9
+    pub node-bad : (p : List ℕ) (ls : List (List ℕ)) → isId p ≡ false → formOf (d ∷ n ∷ p ∷ ls) ≡ refused (only 9)
     unfolding formOf fits when_give_else_ is end
     node-bad p ls hp = simp (hd, hn, hp, hb, hf .state, hf .description, hf .alert, hf .log, id-no-other n hn)
 
@@ -131,33 +131,33 @@ module _ (d : List ℕ) (hd : isId d ≡ true) where
       unfolding formOf fits when_give_else_ is end
       target-row x g h = simp (hd, hn, hp, g, h, hf .state, hf .description)
 
-      pub property-bad : (x : List ℕ) (ls : List (List ℕ)) → eqBytes x setWord ≡ false → eqBytes x $target ≡ false → formOf (d ∷ n ∷ p ∷ x ∷ ls) ≡ refused 9
+      pub property-bad : (x : List ℕ) (ls : List (List ℕ)) → eqBytes x setWord ≡ false → eqBytes x $target ≡ false → formOf (d ∷ n ∷ p ∷ x ∷ ls) ≡ refused (only 9)
       unfolding formOf fits when_give_else_ is end
       property-bad x ls g h = simp (hd, hn, hp, hb, g, h, hf .state, hf .description, hf .alert, hf .log, id-no-other n hn)
 
-      pub property-long : (x : List ℕ) (ls : List (List ℕ)) → end ls ≡ false → formOf (d ∷ n ∷ p ∷ x ∷ ls) ≡ refused 9
+      pub property-long : (x : List ℕ) (ls : List (List ℕ)) → end ls ≡ false → formOf (d ∷ n ∷ p ∷ x ∷ ls) ≡ refused (only 9)
       unfolding formOf fits when_give_else_ is end
       property-long x ls g = simp (hd, hn, hp, hb, g, and-false, hf .state, hf .description, hf .alert, hf .log, id-no-other n hn)
 
   -- and a word of its own form
   module _ (ls : List (List ℕ)) where
-    pub state-fits : formOf (d ∷ $state ∷ ls) ≡ (when end ls give state d else refused 9)
+    pub state-fits : formOf (d ∷ $state ∷ ls) ≡ (when end ls give state d else refused (only 9))
     unfolding formOf fits when_give_else_ is eqBytes oneOf
     state-fits = simp (hd, hb, dollar-no-id (drop 1 $state), other-reserved $state refl)
 
-    pub description-fits : formOf (d ∷ $description ∷ ls) ≡ (when end ls give description d else refused 9)
+    pub description-fits : formOf (d ∷ $description ∷ ls) ≡ (when end ls give description d else refused (only 9))
     unfolding formOf fits when_give_else_ is eqBytes oneOf
     description-fits = simp (hd, hb, dollar-no-id (drop 1 $description), other-reserved $description refl)
 
-    pub alert-fits : formOf (d ∷ $alert ∷ ls) ≡ (when fits (isId ∷ []) end ls give alert d (level ls 0) else refused 9)
+    pub alert-fits : formOf (d ∷ $alert ∷ ls) ≡ (when fits (isId ∷ []) end ls give alert d (level ls 0) else refused (only 9))
     unfolding formOf fits when_give_else_ is eqBytes oneOf
     alert-fits = simp (hd, hb, dollar-no-id (drop 1 $alert), other-reserved $alert refl)
 
-    pub log-fits : formOf (d ∷ $log ∷ ls) ≡ (when fits (oneOf logLevels ∷ []) end ls give log d (level ls 0) else refused 9)
+    pub log-fits : formOf (d ∷ $log ∷ ls) ≡ (when fits (oneOf logLevels ∷ []) end ls give log d (level ls 0) else refused (only 9))
     unfolding formOf fits when_give_else_ is eqBytes oneOf
     log-fits = simp (hd, hb, dollar-no-id (drop 1 $log), other-reserved $log refl)
 
     -- and another word
-    pub other-fits : (w : List ℕ) → Free w → isId w ≡ false → formOf (d ∷ w ∷ ls) ≡ (when (otherWord w && each filled ls) give other d (drop 1 w) ls else refused 9)
+    pub other-fits : (w : List ℕ) → Free w → isId w ≡ false → formOf (d ∷ w ∷ ls) ≡ (when (otherWord w && each filled ls) give other d (drop 1 w) ls else refused (only 9))
     unfolding formOf fits when_give_else_ is
     other-fits w hf hw = simp (hd, hb, hw, hf .state, hf .description, hf .alert, hf .log)

@@ -35,7 +35,7 @@ joined-in (b ∷ s) = let p = splits slash (b ∷ s) in ap joined (p .parts) ∙
 
 -- the answer that says x of a topic that ends at n
 unfoldable shownOf : ℕ → ℕ → Answer Form → Topic
-shownOf at n (refused k) = Refused k
+shownOf at n (refused k) = Refused (k .number)
 shownOf at n (gives (state d)) = State (from at (length d))
 shownOf at n (gives (description d)) = Description (from at (length d))
 shownOf at n (gives (value d e p)) = Value (from at (length d)) (from (at + length d + 1) (length e)) (from (at + length d + 1 + length e + 1) (length p))

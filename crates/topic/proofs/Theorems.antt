@@ -4,7 +4,7 @@ use mathlib.Core.Path.{_≡_}
 use mathlib.Core.List.{List, _∷_}
 use mathlib.Core.Logic.{_↔_}
 use mathlib.Core.Bool.{true}
-use Rattle.answer.specs.Answer.{Answer, refused, gives}
+use Rattle.answer.specs.Answer.{Answer, refused, gives, only}
 use Rattle.text.specs.Split.{split}
 use Rattle.text.specs.Ids.{isId}
 use Rattle.topic.specs.Words.{slash, five}
@@ -24,7 +24,7 @@ pub table : (ls : List (List ℕ)) (f : Form) → (formOf ls ≡ gives f) ↔ Ha
 table ls f = (sound ls f, complete)
 
 -- No row admits them: 9.
-pub table-none : (ls : List (List ℕ)) → (formOf ls ≡ refused 9) ↔ ((f : Form) → HasForm ls f → ⊥)
+pub table-none : (ls : List (List ℕ)) → (formOf ls ≡ refused (only 9)) ↔ ((f : Form) → HasForm ls f → ⊥)
 table-none ls = (λ e f. nine-none ls f e, no-form ls)
 
 -- No levels have two forms.
@@ -32,11 +32,11 @@ pub one-form : {ls : List (List ℕ)} {f g : Form} → HasForm ls f → HasForm 
 one-form h k = let p = complete h in let q = complete k in cc
 
 -- "The first two levels must be that domain and `5`": else 8.
-pub topic-eight : (d t : List ℕ) → (readTopic d t ≡ refused 8) ↔ ((ls : List (List ℕ)) → split slash t ≡ d ∷ five ∷ ls → ⊥)
+pub topic-eight : (d t : List ℕ) → (readTopic d t ≡ refused (only 8)) ↔ ((ls : List (List ℕ)) → split slash t ≡ d ∷ five ∷ ls → ⊥)
 topic-eight d t = (read-eight d t, eight-read d t)
 
 -- They are, and no row admits the rest: 9.
-pub topic-nine : (d t : List ℕ) → (readTopic d t ≡ refused 9) ↔ ((ls : List (List ℕ)) × (split slash t ≡ d ∷ five ∷ ls) × ((f : Form) → HasForm ls f → ⊥))
+pub topic-nine : (d t : List ℕ) → (readTopic d t ≡ refused (only 9)) ↔ ((ls : List (List ℕ)) × (split slash t ≡ d ∷ five ∷ ls) × ((f : Form) → HasForm ls f → ⊥))
 topic-nine d t = (read-nine d t, λ h. nine-read d t (h .0) (h .1) (h .2))
 
 -- They are, and a row admits the rest: that form.

@@ -3,7 +3,7 @@ use Prim.Native.Nat.{ℕ, _+_}
 use mathlib.Core.Path.{_≡_}
 use mathlib.Core.List.{List, [], _∷_}
 use lib.ListN.{length}
-use Rattle.answer.specs.Answer.{Answer, refused, gives}
+use Rattle.answer.specs.Answer.{Answer, refused, gives, only}
 use Rattle.text.specs.Places.{bytesAt, Within}
 use Rattle.text.specs.Split.{split}
 use Rattle.topic.specs.Words.{slash}
@@ -17,7 +17,7 @@ levelsIn [] = []
 levelsIn (b ∷ s) = split slash (b ∷ s)
 
 unfoldable pub meaning : List ℕ → Topic → Answer Form
-meaning t (Refused n) = refused n
+meaning t (Refused n) = refused (only n)
 meaning t (State d) = gives (state (bytesAt t d))
 meaning t (Description d) = gives (description (bytesAt t d))
 meaning t (Value d n p) = gives (value (bytesAt t d) (bytesAt t n) (bytesAt t p))

@@ -4,7 +4,7 @@ use mathlib.Core.List.{List, [], _∷_}
 use mathlib.Core.Bool.{Bool, true, false, not, _&&_, _||_}
 use lib.Dec.{eqb}
 use lib.ListN.{getD, drop}
-use Rattle.answer.specs.Answer.{Answer, refused, gives, require}
+use Rattle.answer.specs.Answer.{Answer, refused, gives, require, only}
 use Rattle.text.specs.Bytes.{eqBytes}
 use Rattle.text.specs.Split.{split}
 use Rattle.text.specs.Ids.{isId}
@@ -73,12 +73,12 @@ formOf ls =
     when fits (isId ∷ is $log ∷ oneOf logLevels ∷ []) end ls give log (level ls 0) (level ls 2) else
     when fits (is $broadcast ∷ isId ∷ []) (each isId) ls give broadcast (drop 1 ls) else
     when fits (isId ∷ otherWord ∷ []) (each filled) ls give other (level ls 0) (drop 1 (level ls 1)) (drop 2 ls) else
-    refused 9
+    refused (only 9)
 
 -- "The first two levels must be that domain and `5`." 8: "first two levels differ".
 unfoldable pub readLevels : List ℕ → List (List ℕ) → Answer Form
-readLevels domain [] = refused 8
-readLevels domain (l ∷ []) = refused 8
+readLevels domain [] = refused (only 8)
+readLevels domain (l ∷ []) = refused (only 8)
 readLevels domain (l ∷ (m ∷ ls)) = require (eqBytes l domain && eqBytes m five) 8 (formOf ls)
 
 -- a topic's levels are the parts between `/`

@@ -1,4 +1,4 @@
--- Verdicts on a description message, in the order of its tests: "Description: 12, 15."
+-- Verdicts on a description message, in the order of its tests: 12, then what is told of its faults
 use Prim.Native.Nat.{ℕ, _<_}
 use mathlib.Core.Path.{_≡_, refl, sym, ap, _∙_}
 use mathlib.Core.List.{List}

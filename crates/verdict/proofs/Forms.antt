@@ -6,7 +6,7 @@ use mathlib.Core.Bool.{Bool, true, false}
 use lib.ListN.{length}
 use types.Run.{OneOf, miss}
 use denote.Enum.Declared.{tagOf}
-use Rattle.answer.specs.Answer.{Answer, refused, gives, andThen}
+use Rattle.answer.specs.Answer.{Answer, refused, gives, andThen, only}
 use Rattle.answer.proofs.Theorems.{require-holds, require-fails}
 use Rattle.text.specs.Ids.{isId, idMost}
 use Rattle.text.proofs.Ids.{is-id}
@@ -35,7 +35,7 @@ use Rattle.verdict.specs.Parts.{unless, formed, Named, OnState, OnDescri
 -- ---- 10 and 11
 
 module _ (retained : Bool) (payload : List ℕ) where
-  pub unformed : (n : ℕ) (a : Answer Form) → a ≡ refused n → formed retained payload a ≡ unless n a
+  pub unformed : (n : ℕ) (a : Answer Form) → a ≡ refused (only n) → formed retained payload a ≡ unless n a
   unfolding formed andThen unless
   unformed zero a e = rw e
   unformed (suc n) a e = rw e

@@ -7,7 +7,7 @@ use mathlib.Core.Bool.{true, false}
 use mathlib.Core.Option.{Option}
 use lib.Dec.{leb}
 use lib.ListN.{length, getD}
-use Rattle.answer.specs.Answer.{refused, gives, andThen}
+use Rattle.answer.specs.Answer.{refused, gives, andThen, only}
 use Rattle.text.specs.Bytes.{eqBytes}
 use Rattle.rules.specs.declared.DeviceState.the-variants.{Init}
 use Rattle.rules.specs.Table.{Device}
@@ -40,7 +40,7 @@ module _ (id : List ℕ) (ds : List Device) (r : ℕ) (rank : r ≡ rankOf id ds
   pub found : r < length ds → find id ds ≡ gives (getD ds r someone)
   found h = find-rank id ds someone (rw (sym rank) h) ∙ ap (λ (k : ℕ). gives (getD ds k someone)) (sym rank)
 
-  pub missing : (r < length ds → ⊥) → find id ds ≡ refused 12
+  pub missing : (r < length ds → ⊥) → find id ds ≡ refused (only 12)
   missing h = find-none id ds (omega (arith, rank, h, first-within (λ (v : Device). eqBytes (v .id) id) ds))
 
   -- a device that must be there, and nothing else

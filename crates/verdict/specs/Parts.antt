@@ -4,7 +4,7 @@ use mathlib.Core.Path.{_≡_}
 use mathlib.Core.List.{List}
 use mathlib.Core.Bool.{Bool, true, _&&_, _||_}
 use lib.ListN.{length}
-use Rattle.answer.specs.Answer.{Answer, refused, gives, require, andThen}
+use Rattle.answer.specs.Answer.{Answer, refused, gives, require, andThen, only}
 use Rattle.text.specs.Utf8.{isText}
 use Rattle.topic.specs.Form.{Form}
 use Rattle.topic.specs.Flags.{flagOf, admits}
@@ -26,7 +26,7 @@ use Rattle.verdict.specs.Verdict.{sent, Judged}
 -- a refusal's number, 0 for none
 unfoldable pub unless : {A : Type 0} → ℕ → Answer A → Answer A
 unless zero a = a
-unless (suc n) a = refused (suc n)
+unless (suc n) a = refused (only (suc n))
 
 -- the rules of the lanes by their tests: whether the property keeps its value, may be set, whether the payload is empty, is valid
 abbrev pub valueTests : (keeps retained empty valid : Bool) → Answer (List Device) → Answer (List Device)

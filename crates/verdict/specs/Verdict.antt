@@ -5,7 +5,7 @@ use mathlib.Core.List.{List}
 use mathlib.Core.Bool.{Bool}
 use mathlib.Core.Option.{none, some}
 use lib.ListN.{length}
-use Rattle.answer.specs.Answer.{Answer, refused, gives, andThen}
+use Rattle.answer.specs.Answer.{Answer, refused, gives, andThen, only}
 use Rattle.text.specs.Places.{bytesAt}
 use Rattle.description.specs.Description.{describe}
 use Rattle.memory.specs.Bytes.{removeAt, insertAt}
@@ -22,9 +22,9 @@ use Rattle.verdict.specs.declared.Verdict.the-variants.{Refused, Time, R
 abbrev pub sent : ℕ → List ℕ → Bool → List ℕ → Message
 sent time topic retained payload = record { time = time; topic = topic; retained = retained; payload = payload }
 
--- what becomes of the devices; a description is judged when it is written: "Description: 12, 15."
+-- what becomes of the devices; a description is judged when it is written: 12, then 21 to 25
 unfoldable pub makes : Message → List Device → Verdict → Answer (List Device)
-makes x ds (Refused n) = refused n
+makes x ds (Refused n) = refused (only n)
 makes x ds Time = gives ds
 makes x ds (Remove r) = gives (removeAt r ds)
 makes x ds (State r s) = gives (changeAt r (withState s (x .time)) ds)

@@ -36,7 +36,7 @@ pub(crate) fn state(mem: &[u8], topic: &[u8], device: Place, payload: &[u8]) -> 
     }
 }
 
-// "Description: 12, 15."; 15 is left to the writing.
+// A description: 12; what is told of its faults is left to the writing.
 pub(crate) fn description(mem: &[u8], topic: &[u8], device: Place, payload: &[u8]) -> Verdict
     ensures { λ r. ⌜ OnDescription (now (mem .entry)) (now (topic .entry)) device (now (payload .entry)) r ⌝ }
 {

@@ -4,17 +4,16 @@ use mathlib.Core.Bool.{Bool, true, false}
 use mathlib.Core.List.{List}
 use mathlib.Core.Option.{Option}
 use Prim.Native.Nat.{ℕ}
-use Rattle.answer.specs.Answer.{Answer, refused, gives, require}
+use Rattle.answer.specs.Answer.{placed}
+use Rattle.faults.specs.declared.Told.{Told}
+use Rattle.faults.specs.declared.Told.the-variants.{Nothing, At}
 use Rattle.payload.specs.declared.Datatype.{Datatype}
 use Rattle.payload.specs.declared.Format.{Format}
 use Rattle.payload.specs.Formats.{keptBytes, keptFormat, givenFormat}
 use Rattle.payload.specs.Payloads.{isPayloadOf}
-use Rattle.fields.specs.Fields.{holds}
-use Rattle.description.specs.declared.Verdict.{Verdict}
-use Rattle.description.specs.declared.Verdict.the-variants.{Taken, Refused}
-use Rattle.description.specs.Description.{rules, describe}
-use Rattle.description.specs.Meaning.{verdict}
-use Rattle.reply.specs.Reply.{refusalNumber, bit}
+use Rattle.description.specs.Description.{told, describe}
+use Rattle.description.proofs.Theorems.{told-nothing, told-at}
+use Rattle.reply.specs.Reply.{refusalNumber, refusalCode, bit}
 
 pub yes-bit : (r x : Bool) → r ≡ x → r ≡ true → 1 ≡ bit x
 unfolding bit
@@ -38,21 +37,12 @@ module _ (d d′ : Datatype) (f : Option (List ℕ)) (s : List ℕ) (r : Bool) (
 pub format-promise : (d d′ : Datatype) (f : List ℕ) (g : Bool) (r : Format) → d ≡ d′ → keptBytes f r ≡ keptFormat d (givenFormat g f) → keptBytes f r ≡ keptFormat d′ (givenFormat g f)
 format-promise d d′ f g r e h = h ∙ ap (λ (x : Datatype). keptFormat x (givenFormat g f)) e
 
--- a description's verdict as a number
-alike : {A B : Type 0} (b : Bool) (x : A) (y : B) → refusalNumber (require b 15 (gives x)) ≡ refusalNumber (require b 15 (gives y))
-unfolding refusalNumber require
-alike true x y = refl
-alike false x y = refl
+-- what is told of a description as a number
+module _ (own s : List ℕ) (t : Told) (e : t ≡ told own s) where
+  pub taken : t ≡ Nothing → 0 ≡ refusalNumber (describe own s)
+  unfolding refusalNumber
+  taken g = sym (ap refusalNumber (told-nothing own s (sym e ∙ g)))
 
-module _ (own s : List ℕ) (v : Verdict) (e : verdict v ≡ require (holds (rules own s)) 15 (gives tt)) where
-  judged-number : refusalNumber (verdict v) ≡ refusalNumber (describe own s)
-  unfolding describe
-  judged-number = ap refusalNumber e ∙ alike (holds (rules own s)) tt _
-
-  pub taken : v ≡ Taken → 0 ≡ refusalNumber (describe own s)
-  unfolding refusalNumber verdict
-  taken g = sym (ap (λ (w : Verdict). refusalNumber (verdict w)) g) ∙ judged-number
-
-  pub not-taken : (k : ℕ) → v ≡ Refused k → k ≡ refusalNumber (describe own s)
-  unfolding refusalNumber verdict
-  not-taken k g = sym (ap (λ (w : Verdict). refusalNumber (verdict w)) g) ∙ judged-number
+  pub not-taken : (p k n : ℕ) → t ≡ At p k → n ≡ refusalCode (placed k p) → n ≡ refusalNumber (describe own s)
+  unfolding refusalNumber
+  not-taken p k n g h = h ∙ sym (ap refusalNumber (told-at own s (sym e ∙ g)))

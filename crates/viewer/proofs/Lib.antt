@@ -1,4 +1,5 @@
 pub mod Judged
+pub mod Passing
 pub mod Read
 pub mod LaneNumbers
 pub mod Zero

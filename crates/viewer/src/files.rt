@@ -12,7 +12,7 @@ use trace::Reading;
 
 // Checks a whole trace: its event count.
 #[no_mangle]
-pub extern "C" fn homie5_trace_check(file: &[u8], out: &mut [u64]) -> u8
+pub extern "C" fn homie5_trace_check(file: &[u8], out: &mut [u64]) -> u32
     ensures { λ r. ⌜ Told (Checks (now (file .entry))) showChecked (now (out .entry)) r (now (out .exit)) ⌝ }
 {
     let a = trace::check(file);
@@ -35,12 +35,12 @@ fn event_values(e: EventAt, at: usize) -> [u64; 7]
     ]
 }
 
-fn tell_reading(out: &mut [u64], a: Reading) -> u8
+fn tell_reading(out: &mut [u64], a: Reading) -> u32
     requires { ⌜ FoundEndsFit a ⌝ }
     ensures { λ r. ⌜ Replied (showReading a) (now (out .entry)) r (now (out .exit)) ⌝ }
 {
     match a {
-        Reading::Refused(k) => k,
+        Reading::Refused(k) => k as u32,
         Reading::Found(e) => {
             let vs = event_values(e, 0);
             reply::tell(out, &vs[..6])
@@ -50,19 +50,19 @@ fn tell_reading(out: &mut [u64], a: Reading) -> u8
 
 // Reads the event of a number, from 0.
 #[no_mangle]
-pub extern "C" fn homie5_trace_read(file: &[u8], i: usize, out: &mut [u64]) -> u8
+pub extern "C" fn homie5_trace_read(file: &[u8], i: usize, out: &mut [u64]) -> u32
     ensures { λ r. ⌜ Told (Read (now (file .entry)) i) showReading (now (out .entry)) r (now (out .exit)) ⌝ }
 {
     let a = trace::read(file, i);
     tell_reading(out, a)
 }
 
-fn tell_step(out: &mut [u64], a: Reading, at: usize) -> u8
+fn tell_step(out: &mut [u64], a: Reading, at: usize) -> u32
     requires { ⌜ FoundEndsFit a ⌝ }
     ensures { λ r. ⌜ Replied (stepReply a at) (now (out .entry)) r (now (out .exit)) ⌝ }
 {
     match a {
-        Reading::Refused(k) => k,
+        Reading::Refused(k) => k as u32,
         Reading::Found(e) => {
             let vs = event_values(e, at);
             reply::tell(out, &vs)
@@ -72,7 +72,7 @@ fn tell_step(out: &mut [u64], a: Reading, at: usize) -> u8
 
 // Reads the event at a reading place, and where the place is then.
 #[no_mangle]
-pub extern "C" fn homie5_trace_next(file: &[u8], place: usize, out: &mut [u64]) -> u8
+pub extern "C" fn homie5_trace_next(file: &[u8], place: usize, out: &mut [u64]) -> u32
     ensures { λ r. ⌜ Told (Stepped (now (file .entry)) place) showStep (now (out .entry)) r (now (out .exit)) ⌝ }
 {
     let a = cursor::next_from(file, place);
@@ -82,7 +82,7 @@ pub extern "C" fn homie5_trace_next(file: &[u8], place: usize, out: &mut [u64]) 
 
 // Writes the empty trace into a lent buffer: its length.
 #[no_mangle]
-pub extern "C" fn homie5_trace_empty(buf: &mut [u8], out: &mut [u64]) -> u8
+pub extern "C" fn homie5_trace_empty(buf: &mut [u8], out: &mut [u64]) -> u32
     ensures { λ r. ⌜ Told (Empties (now (buf .entry)) (now (buf .exit))) showWritten (now (out .entry)) r (now (out .exit)) ⌝ }
 {
     let a = trace::write_empty(buf);
@@ -99,7 +99,7 @@ pub extern "C" fn homie5_trace_append(
     retained: u8,
     payload: &[u8],
     out: &mut [u64],
-) -> u8
+) -> u32
     ensures { λ r. ⌜ Told (Appends (now (buf .entry)) used time (now (topic .entry)) retained (now (payload .entry)) (now (buf .exit))) showWritten (now (out .entry)) r (now (out .exit)) ⌝ }
 {
     let a = trace::append(buf, used, time, topic, retained != 0, payload);

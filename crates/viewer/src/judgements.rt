@@ -9,11 +9,10 @@ ghost use Rattle.reply.specs.Reply.{Told, Replied, refusalNumber, bit, isSet};
 ghost use Rattle.reply.specs.Judgements.{showTopic, showFlag, showNamed, showFormat};
 ghost use Rattle.reply.specs.Descriptions.{showDescription, showDeclared};
 ghost use Rattle.viewer.specs.Promises.{ReadsTopic, NamesDatatype, KeepsFormat, ReadsDescription};
-use description::Verdict;
 
 // Reads a topic of the table of a domain: its form, and where its byte strings stand.
 #[no_mangle]
-pub extern "C" fn homie5_topic_read(domain: &[u8], topic: &[u8], out: &mut [u64]) -> u8
+pub extern "C" fn homie5_topic_read(domain: &[u8], topic: &[u8], out: &mut [u64]) -> u32
     ensures { λ r. ⌜ Told (ReadsTopic (now (domain .entry)) (now (topic .entry))) showTopic (now (out .entry)) r (now (out .exit)) ⌝ }
 {
     let t = topic::read(domain, topic);
@@ -22,7 +21,7 @@ pub extern "C" fn homie5_topic_read(domain: &[u8], topic: &[u8], out: &mut [u64]
 
 // What the form of a topic asks of a message's flag.
 #[no_mangle]
-pub extern "C" fn homie5_topic_flag(domain: &[u8], topic: &[u8], out: &mut [u64]) -> u8
+pub extern "C" fn homie5_topic_flag(domain: &[u8], topic: &[u8], out: &mut [u64]) -> u32
     ensures { λ r. ⌜ Replied (showFlag (readTopic (now (domain .entry)) (now (topic .entry)))) (now (out .entry)) r (now (out .exit)) ⌝ }
 {
     let a = topic::read(domain, topic);
@@ -31,7 +30,7 @@ pub extern "C" fn homie5_topic_flag(domain: &[u8], topic: &[u8], out: &mut [u64]
 
 // The datatype of a name.
 #[no_mangle]
-pub extern "C" fn homie5_is_datatype(name: &[u8], out: &mut [u64]) -> u8
+pub extern "C" fn homie5_is_datatype(name: &[u8], out: &mut [u64]) -> u32
     ensures { λ r. ⌜ Told (NamesDatatype (now (name .entry))) showNamed (now (out .entry)) r (now (out .exit)) ⌝ }
 {
     let a = payload::read_datatype(name);
@@ -40,7 +39,7 @@ pub extern "C" fn homie5_is_datatype(name: &[u8], out: &mut [u64]) -> u8
 
 // Judges a format, or that none is given, and says what is kept of it.
 #[no_mangle]
-pub extern "C" fn homie5_is_format(datatype: u8, given: u8, format: &[u8], out: &mut [u64]) -> u8
+pub extern "C" fn homie5_is_format(datatype: u8, given: u8, format: &[u8], out: &mut [u64]) -> u32
     ensures { λ r. ⌜ Told (KeepsFormat datatype given (now (format .entry))) showFormat (now (out .entry)) r (now (out .exit)) ⌝ }
 {
     let a = payload::judge_format(payload::datatype_at(datatype), given != 0, format);
@@ -49,7 +48,7 @@ pub extern "C" fn homie5_is_format(datatype: u8, given: u8, format: &[u8], out: 
 
 // Judges a payload by datatype and format, or where no format is given.
 #[no_mangle]
-pub extern "C" fn homie5_is_payload(datatype: u8, given: u8, format: &[u8], payload: &[u8]) -> u8
+pub extern "C" fn homie5_is_payload(datatype: u8, given: u8, format: &[u8], payload: &[u8]) -> u32
     ensures { λ r. ⌜ r ≡ bit (isPayloadOf (datatypeAt datatype) (givenFormat (isSet given) (now (format .entry))) (now (payload .entry))) ⌝ }
 {
     if payload::judge_payload(payload::datatype_at(datatype), given != 0, format, payload) {
@@ -60,18 +59,18 @@ pub extern "C" fn homie5_is_payload(datatype: u8, given: u8, format: &[u8], payl
 
 // Judges a description of the device `own`.
 #[no_mangle]
-pub extern "C" fn homie5_description_judge(own: &[u8], text: &[u8]) -> u8
+pub extern "C" fn homie5_description_judge(own: &[u8], text: &[u8]) -> u32
     ensures { λ r. ⌜ r ≡ refusalNumber (describe (now (own .entry)) (now (text .entry))) ⌝ }
 {
     match description::judge(own, text) {
-        Verdict::Taken => 0,
-        Verdict::Refused(k) => k,
+        faults::Told::Nothing => 0,
+        faults::Told::At(place, k) => reply::refusal_code(k, place),
     }
 }
 
 // What a description of the device `own` declares.
 #[no_mangle]
-pub extern "C" fn homie5_description_read(own: &[u8], text: &[u8], out: &mut [u64]) -> u8
+pub extern "C" fn homie5_description_read(own: &[u8], text: &[u8], out: &mut [u64]) -> u32
     ensures { λ r. ⌜ Told (ReadsDescription (now (own .entry)) (now (text .entry))) showDescription (now (out .entry)) r (now (out .exit)) ⌝ }
 {
     let a = description::describe(own, text);
@@ -85,7 +84,7 @@ pub extern "C" fn homie5_description_property(
     text: &[u8],
     i: usize,
     out: &mut [u64],
-) -> u8
+) -> u32
     ensures { λ r. ⌜ Told (ReadsDescription (now (own .entry)) (now (text .entry))) (λ a. showDeclared (now (text .entry)) a i) (now (out .entry)) r (now (out .exit)) ⌝ }
 {
     let d = description::describe(own, text);

@@ -11,7 +11,7 @@ use Rattle.payload.specs.declared.Datatype.{Datatype}
 use Rattle.payload.specs.Datatypes.{nameOf}
 use Rattle.rules.specs.declared.DeviceState.{DeviceState}
 use Rattle.rules.specs.States.{wordOf}
-use Rattle.words.specs.Words.{refusal, signed}
+use Rattle.words.specs.Words.{refusal, refusalAt, signed}
 
 -- the same text by another name
 pub put-same : {d d′ t u : List ℕ} {at r : ℕ} → t ≡ u → Puts d at t r d′ → Puts d at u r d′
@@ -26,6 +26,10 @@ put-datatype x e p = rw e p
 pub adds-refusal : {d d′ d″ : List ℕ} {r r′ : ℕ} (n : ℕ) → Puts d 0 (ascii "refused ") r d′ → Puts d′ r (decimalText n) r′ d″ → Adds d 0 (refusal n) r′ d″
 unfolding refusal
 adds-refusal {d} {d′} {d″} {r} {r′} n p q = adds-then (put-adds d 0 (ascii "refused ") p) (put-adds d′ r (decimalText n) q)
+
+pub adds-place : {d d′ d″ d‴ : List ℕ} {r r′ r″ : ℕ} (n place : ℕ) → Adds d 0 (refusal n) r d′ → Puts d′ r (ascii " ") r′ d″ → Puts d″ r′ (decimalText place) r″ d‴ → Adds d 0 (refusalAt n place) r″ d‴
+unfolding refusalAt
+adds-place {d} {d′} {d″} {d‴} {r} {r′} {r″} n place a p q = adds-then a (adds-then (put-adds d′ r (ascii " ") p) (put-adds d″ r′ (decimalText place) q))
 
 pub adds-above : {d d′ : List ℕ} {r : ℕ} (v : ℕ) → 2 ^ 63 ≤ v → Puts d 0 (decimalText (v - 2 ^ 63)) r d′ → Adds d 0 (signed v) r d′
 unfolding signed

@@ -10,6 +10,10 @@ use Rattle.lines.specs.Number.{decimalText}
 unfoldable pub refusal : ℕ → List ℕ
 refusal n = ascii "refused " ++ decimalText n
 
+-- paper 02, K1, "Split it, with the byte place": "`refused N PLACE`"
+unfoldable pub refusalAt : ℕ → ℕ → List ℕ
+refusalAt n place = refusal n ++ (ascii " " ++ decimalText place)
+
 -- the whole number that is shown plus 2^63, with a sign where it is below 0
 unfoldable pub signed : ℕ → List ℕ
 signed v = cond (leb (2 ^ 63) v) (decimalText (v - 2 ^ 63)) (ascii "-" ++ decimalText (2 ^ 63 - v))

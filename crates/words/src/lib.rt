@@ -4,7 +4,7 @@ ghost use Rattle.lines.specs.Out.{Puts, Adds};
 ghost use Rattle.payload.specs.Datatypes.{nameOf};
 ghost use Rattle.rules.specs.States.{wordOf};
 ghost use Rattle.text.specs.Places.{bytesAt};
-ghost use Rattle.words.specs.Words.{refusal, signed};
+ghost use Rattle.words.specs.Words.{refusal, refusalAt, signed};
 use payload::Datatype;
 use rules::DeviceState;
 use text::Place;
@@ -57,6 +57,15 @@ pub fn refused(out: &mut [u8], n: u8) -> usize
 {
     let at = lines::out::put(out, 0, b"refused ");
     lines::number::write(out, at, n as u64)
+}
+
+// The same, and the place.
+pub fn refused_at(out: &mut [u8], n: u8, place: usize) -> usize
+    ensures { λ r. ⌜ Adds (now (out .entry)) 0 (refusalAt n place) r (now (out .exit)) ⌝ }
+{
+    let at = refused(out, n);
+    let next = lines::out::put(out, at, b" ");
+    lines::number::write(out, next, place as u64)
 }
 
 // The number that is shown plus 2^63.

@@ -2,6 +2,7 @@
 
 use super::descriptions::{description, Plan};
 use super::edits::misshape;
+use super::faulty::faulty_description;
 use super::join_within;
 use super::payloads::{datatype, format, near_format, near_payload};
 use super::texts::{id, near_id, near_utf8};
@@ -25,7 +26,7 @@ fn line(random: &mut Random) -> String {
 }
 
 fn shaped_line(random: &mut Random) -> String {
-    match random.below(40) {
+    match random.below(46) {
         0 | 1 => format!("id {}", hex(&near_id(random))),
         2 | 3 => format!("utf8 {}", hex(&near_utf8(random))),
         4..=9 => topic_line(random),
@@ -34,9 +35,9 @@ fn shaped_line(random: &mut Random) -> String {
             format!("format {} {}", datatype.word(), hex(&near_format(random, datatype)))
         }
         14..=27 => payload_line(random),
-        28..=30 => description_line(random),
-        31..=33 => format!("trace {}", hex(&near_trace(random))),
-        34..=36 => event_line(random),
+        28..=36 => description_line(random),
+        37..=39 => format!("trace {}", hex(&near_trace(random))),
+        40..=42 => event_line(random),
         _ => append_line(random),
     }
 }
@@ -58,7 +59,8 @@ fn description_line(random: &mut Random) -> String {
     let own = id(random);
     let others = [b"hub".to_vec(), id(random)];
     let plan = Plan { own: &own, others: &others, fault: 60 };
-    let text = description(random, &plan);
+    let faulty = random.below(3) > 0;
+    let text = if faulty { faulty_description(random, &plan) } else { description(random, &plan) };
     format!("description {} {}", hex(&own), hex(&text))
 }
 

@@ -2,6 +2,7 @@
 
 use super::descriptions::{description, full_description, Plan};
 use super::edits::edit;
+use super::faulty::faulty_description;
 use super::payloads::near_payload;
 use super::texts::{broken_utf8, id};
 use crate::description::Property;
@@ -40,12 +41,13 @@ impl House {
 
     /// A message, mostly one that the table takes.
     pub fn message(&self, random: &mut Random, table: &Table) -> Message {
-        let mut message = match random.below(20) {
+        let mut message = match random.below(24) {
             _ if table.count() == 0 && !random.once_in(8) => self.state(random),
             0 | 1 => self.state(random),
             2 => self.removal(random, table),
             3 => self.describing(random, table),
             4 => self.passing(random, table),
+            5..=8 => self.describing_badly(random, table),
             _ => self.of_property(random, table),
         };
         message.time = self.time(random, table);
@@ -90,6 +92,13 @@ impl House {
         let full = self.large && random.once_in(3);
         let payload = if full { full_description(random, &plan) } else { description(random, &plan) };
         message(self.topic(&[&id, b"$description"]), true, payload)
+    }
+
+    /// A description that is mostly refused.
+    pub fn describing_badly(&self, random: &mut Random, table: &Table) -> Message {
+        let id = self.device(random, table);
+        let plan = Plan { own: &id, others: &self.ids, fault: 60 };
+        message(self.topic(&[&id, b"$description"]), true, faulty_description(random, &plan))
     }
 
     /// The ID of a device, mostly of one in the table.

@@ -1,6 +1,7 @@
 //! Answers as they should be, and how a library's answer is held against them.
 
 use crate::guarded::{Out, VALUES};
+use homie5::sys::{homie5_number, homie5_place};
 use reference::lines::hex;
 use reference::random::Random;
 use reference::refusal::Refusal;
@@ -15,30 +16,50 @@ pub enum Value {
     Text(Vec<u8>),
 }
 
-/// The number that a call returns, and its values.
+/// What a call returns, and its values.
 pub struct Answer {
-    pub number: u8,
+    pub returned: u32,
     pub values: Vec<Value>,
 }
 
+/// What is returned by a call that is refused so: the number, and above it the place, 0 where none is told.
+pub fn refused(refusal: Refusal) -> u32 {
+    u32::from(refusal.number) + 256 * refusal.place.map_or(0, |place| place as u32)
+}
+
+/// What is returned by a call that is answered so.
+pub fn returned<T>(answer: &Result<T, Refusal>) -> u32 {
+    answer.as_ref().map_or_else(|refusal| refused(*refusal), |_| 0)
+}
+
+/// What was returned, as a report shows it: the number, and the place where one is told or should not be.
+pub fn told(returned: u32) -> String {
+    let (number, place) = (homie5_number(returned), homie5_place(returned));
+    if place > 0 || is_placed(returned) {
+        format!("{number} at {place}")
+    } else {
+        number.to_string()
+    }
+}
+
+/// Whether this is a refusal that tells a place.
+pub fn is_placed(returned: u32) -> bool {
+    homie5::Refusal::from_returned(returned).is_some_and(|refusal| refusal.place().is_some())
+}
+
 impl Answer {
-    pub fn refused(number: Refusal) -> Answer {
-        Answer { number, values: Vec::new() }
+    pub fn refused(refusal: Refusal) -> Answer {
+        Answer { returned: refused(refusal), values: Vec::new() }
     }
 
     pub fn of(answer: Result<Vec<Value>, Refusal>) -> Answer {
-        match answer {
-            Ok(values) => Answer { number: 0, values },
-            Err(number) => Answer::refused(number),
-        }
+        Answer { returned: returned(&answer), values: answer.unwrap_or_default() }
     }
 
     /// 1 with these numbers, or 0.
     pub fn judged(numbers: Option<Vec<u64>>) -> Answer {
-        match numbers {
-            Some(numbers) => Answer { number: 1, values: numbers.into_iter().map(Value::Number).collect() },
-            None => Answer::refused(0),
-        }
+        let returned = u32::from(numbers.is_some());
+        Answer { returned, values: numbers.unwrap_or_default().into_iter().map(Value::Number).collect() }
     }
 
     /// How many numbers the values take.
@@ -47,10 +68,11 @@ impl Answer {
     }
 
     /// Whether this is what a call returned and wrote; places are places in the bytes given.
-    pub fn compare(&self, number: u8, out: &Out, bytes: &[u8]) -> Result<(), String> {
-        let shown = out.values(self.len()).map_err(|fault| format!("answers {number}: {fault}; expected {self}"))?;
+    pub fn compare(&self, returned: u32, out: &Out, bytes: &[u8]) -> Result<(), String> {
+        let said = told(returned);
+        let shown = out.values(self.len()).map_err(|fault| format!("answers {said}: {fault}; expected {self}"))?;
         let mut rest = shown;
-        let mut same = number == self.number;
+        let mut same = returned == self.returned;
         for value in &self.values {
             let (cells, behind) = rest.split_at(value.len().min(rest.len()));
             same = same && value.is_shown(cells, bytes);
@@ -59,7 +81,7 @@ impl Answer {
         if same {
             return Ok(());
         }
-        Err(format!("answers {number} with {shown:?}{}; expected {self}", texts(shown, bytes)))
+        Err(format!("answers {said} with {shown:?}{}; expected {self}", texts(shown, bytes)))
     }
 }
 
@@ -99,7 +121,7 @@ fn texts(shown: &[u64], bytes: &[u8]) -> String {
 
 impl fmt::Display for Answer {
     fn fmt(&self, f: &mut fmt::Formatter) -> fmt::Result {
-        write!(f, "{}", self.number)?;
+        write!(f, "{}", told(self.returned))?;
         for value in &self.values {
             match value {
                 Value::Number(n) => write!(f, " {n}")?,
@@ -115,11 +137,11 @@ pub fn hold(
     random: &mut Random,
     expected: &Answer,
     bytes: &[u8],
-    call: impl Fn(&mut [u64]) -> u8,
+    call: impl Fn(&mut [u64]) -> u32,
 ) -> Result<(), String> {
     let mut full = Out::new(VALUES + random.below(3));
-    let number = call(full.lent());
-    expected.compare(number, &full, bytes)?;
+    let once = call(full.lent());
+    expected.compare(once, &full, bytes)?;
     let mut other = Out::some(random);
     let again = call(other.lent());
     expected.compare(again, &other, bytes)?;

@@ -57,7 +57,7 @@ impl Call {
 }
 
 /// Feeds a message to the library.
-pub fn send(memory: &mut [u8], message: &Message, retained: u8) -> u8 {
+pub fn send(memory: &mut [u8], message: &Message, retained: u8) -> u32 {
     let Message { time, topic, payload, .. } = message;
     raw::message(memory, raw::Event { time: *time, topic, retained, payload })
 }
@@ -80,7 +80,7 @@ impl Question {
     }
 
     /// Asks the library.
-    pub fn ask(&self, memory: &[u8], out: &mut [u64]) -> u8 {
+    pub fn ask(&self, memory: &[u8], out: &mut [u64]) -> u32 {
         match self {
             Question::DeviceCount => raw::device_count(memory, out),
             Question::LastTime => raw::last_time(memory, out),

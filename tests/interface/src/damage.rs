@@ -1,7 +1,7 @@
 //! Memory that is damaged between calls, or never was a table: every call returns, answers 6 exactly where the memory
 //! is not sound by docs/SOUNDNESS.md, and alters nothing that it may not.
 
-use crate::answer::part;
+use crate::answer::{self, is_placed, part, refused, told};
 use crate::calls::{send, Call, Question};
 use crate::guarded::{random_bytes, Guarded, Out, VALUES};
 use crate::questions::question;
@@ -9,6 +9,8 @@ use crate::raw;
 use crate::sound::{is_sound, size, DOMAIN, ENTRY, HEAD, ORDER, RING, ROOM};
 use crate::table::List;
 use crate::tally::{is_legal, Outcome, Tally};
+use homie5::sys::{homie5_number, homie5_place};
+use reference::description;
 use reference::generate::messages::House;
 use reference::generate::texts::id;
 use reference::random::Random;
@@ -69,11 +71,11 @@ impl<'a> Damaged<'a> {
 
     fn make_some(&mut self) -> Outcome {
         let call = self.call();
-        let number = match &call {
+        let returned = match &call {
             Call::Ask(question) => self.ask(question),
             call => self.write(call),
         };
-        number.map(|number| self.tally.count(call.name(), number)).map_err(|fault| format!("{call}: {fault}"))
+        returned.map(|returned| self.tally.count(call.name(), returned)).map_err(|fault| format!("{call}: {fault}"))
     }
 
     fn call(&mut self) -> Call {
@@ -112,27 +114,33 @@ impl<'a> Damaged<'a> {
 // Calls
 
 impl Damaged<'_> {
-    fn is_answer(&self, name: &str, number: u8, sound: bool) -> Outcome {
-        if !is_legal(name, number) {
-            return Err(format!("answers {number}, which is no answer of this call"));
+    /// The number is one of the call's, a place is told by refusals of descriptions alone, and 6 where it must be.
+    fn is_answer(&self, name: &str, returned: u32, sound: bool) -> Outcome {
+        let said = told(returned);
+        let odd = homie5_place(returned) > 0 && !is_placed(returned);
+        if !is_legal(name, homie5_number(returned)) || odd {
+            return Err(format!("answers {said}, which is no answer of this call"));
         }
-        match (number == NOT_SOUND, sound) {
+        match (returned == refused(NOT_SOUND), sound) {
             (true, true) => Err("answers 6, and memory is sound".to_string()),
-            (false, false) => Err(format!("answers {number}, and memory is not sound")),
+            (false, false) => Err(format!("answers {said}, and memory is not sound")),
             _ => Ok(()),
         }
     }
 
-    fn write(&mut self, call: &Call) -> Result<u8, String> {
+    fn write(&mut self, call: &Call) -> Result<u32, String> {
         let sound = is_sound(self.memory.bytes());
-        let number = match call {
+        let returned = match call {
             Call::Message(message, retained) => send(self.memory.lent(), message, *retained),
             _ => raw::step_back(self.memory.lent()),
         };
-        self.is_answer(call.name(), number, sound)?;
-        if number != 0 {
+        self.is_answer(call.name(), returned, sound)?;
+        if let Call::Message(message, _) = call {
+            is_fault(message, returned)?;
+        }
+        if returned != 0 {
             self.memory.altered_past(0)?;
-            return Ok(number);
+            return Ok(returned);
         }
         let (devices, depth) = (self.memory.bytes()[1], self.memory.bytes()[2]);
         self.memory.altered_past(size(devices.into(), depth.into()))?;
@@ -140,22 +148,35 @@ impl Damaged<'_> {
             return Err("leaves memory that is not sound".to_string());
         }
         self.memory.accept();
-        Ok(number)
+        Ok(returned)
     }
 
-    fn ask(&mut self, question: &Question) -> Result<u8, String> {
+    fn ask(&mut self, question: &Question) -> Result<u32, String> {
         let sound = is_sound(self.memory.bytes());
         let mut out = if self.random.once_in(2) { Out::new(VALUES) } else { Out::some(&mut self.random) };
-        let number = question.ask(self.memory.bytes(), out.lent());
-        self.is_answer(question.name(), number, sound)?;
+        let returned = question.ask(self.memory.bytes(), out.lent());
+        self.is_answer(question.name(), returned, sound)?;
         self.memory.altered_past(0)?;
-        if number == 0 {
+        if returned == 0 {
             shows(question, &out, self.memory.bytes())?;
         } else {
             out.values(0)?;
         }
-        Ok(number)
+        Ok(returned)
     }
+}
+
+/// Whatever memory holds: a refusal that tells a place is that of the description for the device of the topic.
+fn is_fault(message: &Message, returned: u32) -> Outcome {
+    if !is_placed(returned) {
+        return Ok(());
+    }
+    let own = message.topic.split(|&byte| byte == b'/').nth(2).unwrap_or(b"");
+    let expected = answer::returned(&description::read(own, &message.payload));
+    if returned == expected {
+        return Ok(());
+    }
+    Err(format!("answers {}; the description's fault is {}", told(returned), told(expected)))
 }
 
 /// A value of an answer: a number up to a limit, or a place.

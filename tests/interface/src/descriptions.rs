@@ -1,6 +1,6 @@
-//! Descriptions: judged, and what they declare, with where it stands in the text.
+//! Descriptions: judged, with the place of the first fault, and what they declare, with where it stands in the text.
 
-use crate::answer::same_values;
+use crate::answer::{refused, returned, same_values, told};
 use crate::calls::datatype_number;
 use crate::guarded::{Out, VALUES};
 use crate::questions::some_number;
@@ -8,11 +8,12 @@ use crate::raw;
 use crate::tally::{Outcome, Tally};
 use reference::description::{self, Description, Property};
 use reference::generate::descriptions::{description, full_description, Plan};
+use reference::generate::faulty::faulty_description;
 use reference::generate::texts::{id, near_id};
 use reference::json::{self, Value};
 use reference::lines::hex;
 use reference::random::Random;
-use reference::refusal::{DESCRIPTION, NUMBER};
+use reference::refusal::NUMBER;
 
 /// A quarter of the calls, since each walks a whole description.
 pub fn run(seed: u64, length: usize, tally: &mut Tally) -> Outcome {
@@ -21,8 +22,11 @@ pub fn run(seed: u64, length: usize, tally: &mut Tally) -> Outcome {
         let own = if random.once_in(10) { near_id(&mut random) } else { id(&mut random) };
         let others = [b"hub".to_vec(), id(&mut random)];
         let plan = Plan { own: &own, others: &others, fault: random.pick(&[60, 400]) };
-        let full = random.once_in(20);
-        let text = if full { full_description(&mut random, &plan) } else { description(&mut random, &plan) };
+        let text = match random.below(20) {
+            0 => full_description(&mut random, &plan),
+            1..=9 => description(&mut random, &plan),
+            _ => faulty_description(&mut random, &plan),
+        };
         one(&mut random, &own, &text, tally)
             .map_err(|fault| format!("description {} {}: {fault}", hex(&own), hex(&text)))?;
     }
@@ -32,22 +36,22 @@ pub fn run(seed: u64, length: usize, tally: &mut Tally) -> Outcome {
 /// Judged, read, and its properties asked, up to past the last.
 fn one(random: &mut Random, own: &[u8], text: &[u8], tally: &mut Tally) -> Outcome {
     let expected = description::read(own, text);
-    let number = if expected.is_some() { 0 } else { DESCRIPTION };
+    let whole = returned(&expected);
     let judged = raw::description_judge(own, text);
     tally.count("description_judge", judged);
-    if judged != number {
-        return Err(format!("judged {judged}; expected {number}"));
+    if judged != whole {
+        return Err(format!("judged {}; expected {}", told(judged), told(whole)));
     }
-    tally.count("description_read", number);
-    let head = asked(random, number, 6, |out| raw::description_read(own, text, out))?;
-    if let Some(expected) = &expected {
+    tally.count("description_read", whole);
+    let head = asked(random, whole, 6, |out| raw::description_read(own, text, out))?;
+    if let Ok(expected) = &expected {
         is_head(text, &head, expected).map_err(|fault| format!("read: {head:?}: {fault}"))?;
     }
     let properties = expected.as_ref().map_or(&[][..], |description| &description.properties);
     for i in numbers(random, properties.len()) {
-        let number = if expected.is_none() { DESCRIPTION } else { properties.get(i).map_or(NUMBER, |_| 0) };
-        tally.count("description_property", number);
-        let values = asked(random, number, 7, |out| raw::description_property(own, text, i, out))
+        let one = if whole == 0 && i >= properties.len() { refused(NUMBER) } else { whole };
+        tally.count("description_property", one);
+        let values = asked(random, one, 7, |out| raw::description_property(own, text, i, out))
             .map_err(|fault| format!("property {i}: {fault}"))?;
         if let Some(property) = properties.get(i) {
             is_property(text, &values, property).map_err(|fault| format!("property {i}: {values:?}: {fault}"))?;
@@ -62,13 +66,18 @@ fn numbers(random: &mut Random, count: usize) -> Vec<usize> {
 }
 
 /// Asks with room for all values, then with any; answers the values.
-fn asked(random: &mut Random, expected: u8, count: usize, call: impl Fn(&mut [u64]) -> u8) -> Result<Vec<u64>, String> {
+fn asked(
+    random: &mut Random,
+    expected: u32,
+    count: usize,
+    call: impl Fn(&mut [u64]) -> u32,
+) -> Result<Vec<u64>, String> {
     let count = if expected == 0 { count } else { 0 };
     let mut full = Out::new(VALUES + random.below(3));
     let mut other = Out::some(random);
-    let numbers = [call(full.lent()), call(other.lent())];
-    if numbers != [expected; 2] {
-        return Err(format!("answers {numbers:?}; expected {expected}"));
+    let both = [call(full.lent()), call(other.lent())];
+    if both != [expected; 2] {
+        return Err(format!("answers {:?}; expected {}", both.map(told), told(expected)));
     }
     same_values(count, &full, &other)?;
     Ok(full.values(count)?.to_vec())
@@ -116,15 +125,9 @@ fn kept(property: &Property, given: bool) -> u64 {
 /// Whether the text gives the format of a property, kept or not.
 fn has_format(text: &[u8], property: &Property) -> bool {
     let names: [&[u8]; 5] = [b"nodes", &property.node, b"properties", &property.id, b"format"];
-    let format = |document: Value| names.iter().try_fold(&document, |value, name| member(value, name)).is_some();
+    let format =
+        |document: Value| names.iter().try_fold(&document, |value, name| value.object()?.value(name)).is_some();
     json::read(text).is_some_and(format)
-}
-
-fn member<'a>(value: &'a Value, name: &[u8]) -> Option<&'a Value> {
-    match value {
-        Value::Object(members) => members.iter().find(|(other, _)| other == name).map(|(_, value)| value),
-        _ => None,
-    }
 }
 
 // Places in the text

@@ -1,6 +1,6 @@
 //! Trace files: checked, read, written and appended to.
 
-use crate::answer::{hold, part, Answer, Value};
+use crate::answer::{hold, part, refused, told, Answer, Value};
 use crate::guarded::{random_bytes, Guarded, Out};
 use crate::questions::some_number;
 use crate::raw;
@@ -9,6 +9,7 @@ use reference::generate::edits::edit;
 use reference::generate::traces::{appending, damaged, near_trace, Appending};
 use reference::lines::hex;
 use reference::random::Random;
+use reference::refusal::{Refusal, NUMBER};
 use reference::trace::{self, write_file, Event, ENTRY_SIZE, HEADER_SIZE};
 
 pub fn run(seed: u64, length: usize, tally: &mut Tally) -> Outcome {
@@ -75,7 +76,7 @@ fn some_file(random: &mut Random, tally: &mut Tally) -> Outcome {
 fn read(random: &mut Random, file: &[u8], tally: &mut Tally) -> Outcome {
     let lent = Guarded::new(random, file);
     let expected = Answer::of(trace::check(file).map(|count| vec![Value::Number(count)]));
-    tally.count("trace_check", expected.number);
+    tally.count("trace_check", expected.returned);
     hold(random, &expected, file, |out| raw::trace_check(lent.bytes(), out))
         .map_err(|fault| format!("check: {fault}"))?;
     let count = file.first().map_or(0, |&low| usize::from(low).min(60));
@@ -105,11 +106,11 @@ fn expected_event(file: &[u8], i: usize, further: Option<u64>) -> Answer {
 /// By number, and by a reading place at the same number.
 fn event_at(random: &mut Random, lent: &Guarded, file: &[u8], i: usize, tally: &mut Tally) -> Outcome {
     let expected = expected_event(file, i, None);
-    tally.count("trace_read", expected.number);
+    tally.count("trace_read", expected.returned);
     hold(random, &expected, file, |out| raw::trace_read(lent.bytes(), i, out))
         .map_err(|fault| format!("read {i}: {fault}"))?;
     let expected = expected_event(file, i, Some((i as u64).wrapping_add(1)));
-    tally.count("trace_next", expected.number);
+    tally.count("trace_next", expected.returned);
     hold(random, &expected, file, |out| raw::trace_next(lent.bytes(), i, out))
         .map_err(|fault| format!("next {i}: {fault}"))
 }
@@ -121,10 +122,10 @@ fn reading_places(random: &mut Random, lent: &Guarded, file: &[u8], tally: &mut 
     loop {
         event_at(random, lent, file, place, tally)?;
         let mut out = Out::new(7);
-        let number = raw::trace_next(lent.bytes(), place, out.lent());
-        if number != 0 {
-            let end = good.map_or(true, |count| number == 3 && place as u64 == count);
-            return if end { Ok(()) } else { Err(format!("next {place}: answers {number} before the end")) };
+        let returned = raw::trace_next(lent.bytes(), place, out.lent());
+        if returned != 0 {
+            let end = good.map_or(true, |count| returned == refused(NUMBER) && place as u64 == count);
+            return if end { Ok(()) } else { Err(format!("next {place}: answers {} before the end", told(returned))) };
         }
         place = out.values(7)?[6] as usize;
     }
@@ -140,17 +141,17 @@ fn empty(random: &mut Random, tally: &mut Tally) -> Outcome {
         let answer = trace::write_empty(&mut expected);
         let mut lent = Guarded::new(random, &bytes);
         let mut out = Out::some(random);
-        let number = raw::trace_empty(lent.lent(), out.lent());
-        tally.count("trace_empty", number);
-        wrote(answer, number, &out, &lent, &expected).map_err(|fault| format!("empty, {len} bytes: {fault}"))?;
+        let returned = raw::trace_empty(lent.lent(), out.lent());
+        tally.count("trace_empty", returned);
+        wrote(answer, returned, &out, &lent, &expected).map_err(|fault| format!("empty, {len} bytes: {fault}"))?;
     }
     Ok(())
 }
 
 /// The answer, the buffer's bytes, and that those past the new length stay.
-fn wrote(answer: Result<usize, u8>, number: u8, out: &Out, lent: &Guarded, expected: &[u8]) -> Outcome {
+fn wrote(answer: Result<usize, Refusal>, returned: u32, out: &Out, lent: &Guarded, expected: &[u8]) -> Outcome {
     let values = answer.map(|length| vec![Value::Number(length as u64)]);
-    Answer::of(values).compare(number, out, &[])?;
+    Answer::of(values).compare(returned, out, &[])?;
     lent.altered_past(answer.unwrap_or(0))?;
     match (0..expected.len()).find(|&at| lent.bytes()[at] != expected[at]) {
         None => Ok(()),
@@ -176,9 +177,9 @@ fn append(
     let retained = if event.retained { random.pick(&[1, 1, 2, 255]) } else { 0 };
     let Event { time, topic, payload, .. } = event;
     let given = raw::Event { time: *time, topic, retained, payload };
-    let number = raw::trace_append(lent.lent(), used, given, out.lent());
-    tally.count("trace_append", number);
-    wrote(answer, number, &out, &lent, &expected).map_err(|fault| {
+    let returned = raw::trace_append(lent.lent(), used, given, out.lent());
+    tally.count("trace_append", returned);
+    wrote(answer, returned, &out, &lent, &expected).map_err(|fault| {
         let (topic, payload) = (hex(&topic[..topic.len().min(300)]), hex(&payload[..payload.len().min(300)]));
         let front = hex(&buffer[..buffer.len().min(2000)]);
         format!("append {front} ({} bytes) {used} {time} {topic} {retained} {payload}: {fault}", buffer.len())

@@ -39,12 +39,12 @@ fn topics(random: &mut Random, tally: &mut Tally) -> Outcome {
     let what = format!("topic {} {}", hex(&domain), hex(&topic));
 
     let expected = Answer::of(form.map(|form| shown(form, &topic)));
-    tally.count("topic_read", expected.number);
+    tally.count("topic_read", expected.returned);
     hold(random, &expected, &topic, |out| raw::topic_read(&domain, &topic, out))
         .map_err(|fault| format!("{what}: {fault}"))?;
 
     let expected = Answer::of(form.map(|form| vec![Value::Number(flag(form))]));
-    tally.count("topic_flag", expected.number);
+    tally.count("topic_flag", expected.returned);
     hold(random, &expected, &topic, |out| raw::topic_flag(&domain, &topic, out))
         .map_err(|fault| format!("flag of {what}: {fault}"))
 }
@@ -96,7 +96,7 @@ fn names(random: &mut Random, tally: &mut Tally) -> Outcome {
     let word = datatype(random).word().as_bytes().to_vec();
     let name = if random.once_in(8) { near_utf8(random) } else { maybe_edit(random, 2, word) };
     let expected = Answer::judged(Datatype::from_word(&name).map(|datatype| vec![datatype_number(datatype)]));
-    tally.count("is_datatype", expected.number);
+    tally.count("is_datatype", expected.returned);
     hold(random, &expected, &[], |out| raw::is_datatype(&name, out))
         .map_err(|fault| format!("datatype {}: {fault}", hex(&name)))
 }
@@ -126,7 +126,7 @@ fn formats(random: &mut Random, tally: &mut Tally) -> Outcome {
     let format = near_format(random, datatype);
     let given = random.pick(&[0, 1, 1, 1, 2, 255]);
     let expected = Answer::judged(kept(datatype, (given != 0).then_some(&format)).map(|kept| vec![kept]));
-    tally.count("is_format", expected.number);
+    tally.count("is_format", expected.returned);
     hold(random, &expected, &[], |out| raw::is_format(number, given, &format, out))
         .map_err(|fault| format!("format {number} {given} {}: {fault}", hex(&format)))
 }
@@ -137,7 +137,7 @@ fn payloads(random: &mut Random, tally: &mut Tally) -> Outcome {
     let format = if random.once_in(10) { near_format(random, datatype) } else { format(random, datatype) };
     let meant = if given == 0 { datatype.missing_format() } else { Some(&format[..]) };
     let payload = near_payload(random, datatype, meant.unwrap_or(&format));
-    let expected = u8::from(meant.is_some_and(|meant| is_payload(datatype, meant, &payload)));
+    let expected = u32::from(meant.is_some_and(|meant| is_payload(datatype, meant, &payload)));
     let answer = raw::is_payload(number, given, &format, &payload);
     tally.count("is_payload", answer);
     if answer == expected {

@@ -1,6 +1,6 @@
 //! Openings: D and J, domains, and memory of every length near the need.
 
-use crate::answer::{hold, Answer, Value};
+use crate::answer::{hold, returned, told, Answer, Value};
 use crate::calls::Question;
 use crate::guarded::{random_bytes, Guarded};
 use crate::raw;
@@ -93,19 +93,19 @@ fn open(
     depth: usize,
     tally: &mut Tally,
 ) -> Result<bool, String> {
-    let expected = Book::open(domain, devices as u64, depth as u64, memory.len() as u64).err().unwrap_or(0);
-    let number = raw::open(memory.lent(), domain, devices, depth);
-    tally.count("open", number);
+    let expected = returned(&Book::open(domain, devices as u64, depth as u64, memory.len() as u64));
+    let opened = raw::open(memory.lent(), domain, devices, depth);
+    tally.count("open", opened);
     let what = format!("open {} {devices} {depth} {}", hex(domain), memory.len());
-    if number != expected {
-        return Err(format!("{what}: answers {number}; expected {expected}"));
+    if opened != expected {
+        return Err(format!("{what}: answers {}; expected {}", told(opened), told(expected)));
     }
-    let allowed = if number == 0 { size(devices, depth) } else { 0 };
+    let allowed = if opened == 0 { size(devices, depth) } else { 0 };
     memory.altered_past(allowed).map_err(|fault| format!("{what}: {fault}"))?;
-    if number == 0 {
+    if opened == 0 {
         is_new(random, memory, tally).map_err(|fault| format!("{what}, then {fault}"))?;
     }
-    Ok(number == 0)
+    Ok(opened == 0)
 }
 
 /// A new table is sound and has no devices, no last time and no steps.
@@ -120,7 +120,7 @@ fn is_new(random: &mut Random, memory: &Guarded, tally: &mut Tally) -> Outcome {
         (Question::Steps, none()),
         (Question::DeviceAt(0), Answer::refused(NUMBER)),
     ] {
-        tally.count(question.name(), expected.number);
+        tally.count(question.name(), expected.returned);
         hold(random, &expected, memory.bytes(), |out| question.ask(memory.bytes(), out))
             .map_err(|fault| format!("{question}: {fault}"))?;
     }

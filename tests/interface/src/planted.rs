@@ -1,5 +1,6 @@
 //! Faults planted behind the library's back: the comparison must notice each of them.
 
+use crate::answer::is_placed;
 use crate::guarded::{Guarded, Out, VALUES};
 use crate::sound::{HEAD, ORDER, ROOM};
 use crate::table::List;
@@ -17,6 +18,10 @@ pub struct Planted {
 enum Fault {
     /// Another number is returned.
     Number,
+    /// A refusal of a description tells another place.
+    Place,
+    /// A refusal that tells nothing has a place.
+    Told,
     /// The first value is another.
     Value,
     /// A value past those of the answer is written.
@@ -41,8 +46,10 @@ enum Fault {
     Step,
 }
 
-const FAULTS: [Fault; 14] = [
+const FAULTS: [Fault; 16] = [
     Fault::Number,
+    Fault::Place,
+    Fault::Told,
     Fault::Value,
     Fault::PastAnswer,
     Fault::BeforeArray,
@@ -98,22 +105,25 @@ impl Planted {
         self.done
     }
 
-    pub fn after_call(&mut self, number: &mut u8, memory: &mut Guarded, size: usize, out: &mut Out) {
+    pub fn after_call(&mut self, returned: &mut u32, memory: &mut Guarded, size: usize, out: &mut Out) {
         if self.calls_before > 0 {
             self.calls_before -= 1;
         } else if out.lent().is_empty() {
-            self.done |= self.after_writing(number, memory, size);
+            self.done |= self.after_writing(returned, memory, size);
         } else {
-            self.done |= self.after_question(number, memory, out);
+            self.done |= self.after_question(returned, memory, out);
         }
     }
 
     /// Whether the fault is one of calls that write, and was planted.
-    fn after_writing(&self, number: &mut u8, memory: &mut Guarded, size: usize) -> bool {
-        let taken = *number == 0;
+    fn after_writing(&self, returned: &mut u32, memory: &mut Guarded, size: usize) -> bool {
+        let taken = *returned == 0;
+        let placed = is_placed(*returned);
         let first = ROOM * (1 + usize::from(memory.bytes()[ORDER]));
         match self.fault {
-            Fault::Number => *number = number.wrapping_add(1),
+            Fault::Number => *returned ^= 1,
+            Fault::Place if placed => *returned = returned.wrapping_add(256),
+            Fault::Told if !taken && !placed => *returned += 256,
             Fault::BeforeMemory => flip_before(memory),
             Fault::PastMemory => return flip_past(memory),
             Fault::Spare if size < memory.len() => memory.lent()[size] ^= 1,
@@ -129,11 +139,12 @@ impl Planted {
     }
 
     /// Whether the fault is one of questions, and was planted.
-    fn after_question(&self, number: &mut u8, memory: &mut Guarded, out: &mut Out) -> bool {
+    fn after_question(&self, returned: &mut u32, memory: &mut Guarded, out: &mut Out) -> bool {
         let len = out.lent().len();
         match self.fault {
-            Fault::Number => *number = number.wrapping_add(1),
-            Fault::Value if *number == 0 => out.lent()[0] = out.lent()[0].wrapping_add(1),
+            Fault::Number => *returned ^= 1,
+            Fault::Told if *returned != 0 => *returned += 256,
+            Fault::Value if *returned == 0 => out.lent()[0] = out.lent()[0].wrapping_add(1),
             Fault::PastAnswer if len > VALUES => out.lent()[VALUES] ^= 1,
             Fault::BeforeArray => flip_value(out, false, len),
             Fault::PastArray => flip_value(out, true, len),

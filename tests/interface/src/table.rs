@@ -1,6 +1,6 @@
 //! Long random lists of calls on one table.
 
-use crate::answer::{same_values, Answer};
+use crate::answer::{same_values, told, Answer};
 use crate::book::Kept;
 use crate::calls::{send, Call, Question};
 use crate::guarded::{random_bytes, Guarded, Out, VALUES};
@@ -58,10 +58,10 @@ impl<'a> List<'a> {
         let spare = random.pick(&[0, 1, 7, 64, 8191, 8192]);
         let bytes = random_bytes(&mut random, size + spare);
         let mut memory = Guarded::new(&mut random, &bytes);
-        let number = raw::open(memory.lent(), &domain, devices, depth);
-        tally.count("open", number);
-        if number != 0 {
-            return Err(format!("open, D {devices}, J {depth}: answers {number}"));
+        let opened = raw::open(memory.lent(), &domain, devices, depth);
+        tally.count("open", opened);
+        if opened != 0 {
+            return Err(format!("open, D {devices}, J {depth}: answers {}", told(opened)));
         }
         memory.altered_past(size).map_err(|fault| format!("open: {fault}"))?;
         memory.accept();
@@ -77,19 +77,19 @@ impl<'a> List<'a> {
             Call::Ask(question) => self.ask(question, &expected),
             _ => self.write(&call, &expected),
         };
-        self.tally.count(call.name(), expected.number);
+        self.tally.count(call.name(), expected.returned);
         result.map_err(|fault| format!("{call}: {fault}"))
     }
 
     fn write(&mut self, call: &Call, expected: &Answer) -> Outcome {
-        let mut number = match call {
+        let mut returned = match call {
             Call::Message(message, retained) => send(self.memory.lent(), message, *retained),
             _ => raw::step_back(self.memory.lent()),
         };
         let mut out = Out::new(0);
-        self.plant(&mut number, &mut out);
-        expected.compare(number, &out, &[])?;
-        if number != 0 {
+        self.plant(&mut returned, &mut out);
+        expected.compare(returned, &out, &[])?;
+        if returned != 0 {
             return self.memory.altered_past(0);
         }
         self.memory.altered_past(self.size)?;
@@ -110,9 +110,9 @@ impl<'a> List<'a> {
     }
 
     fn ask_into(&mut self, question: &Question, expected: &Answer, mut out: Out) -> Result<Out, String> {
-        let mut number = question.ask(self.memory.bytes(), out.lent());
-        self.plant(&mut number, &mut out);
-        expected.compare(number, &out, &self.memory.bytes()[..self.size])?;
+        let mut returned = question.ask(self.memory.bytes(), out.lent());
+        self.plant(&mut returned, &mut out);
+        expected.compare(returned, &out, &self.memory.bytes()[..self.size])?;
         self.memory.altered_past(0)?;
         Ok(out)
     }
@@ -121,9 +121,9 @@ impl<'a> List<'a> {
         self.planted.as_ref().is_some_and(Planted::is_done)
     }
 
-    fn plant(&mut self, number: &mut u8, out: &mut Out) {
+    fn plant(&mut self, returned: &mut u32, out: &mut Out) {
         if let Some(planted) = &mut self.planted {
-            planted.after_call(number, &mut self.memory, self.size, out);
+            planted.after_call(returned, &mut self.memory, self.size, out);
         }
     }
 }
@@ -138,7 +138,7 @@ impl List<'_> {
             1..=4 => self.several(|list| list.house.message(&mut list.random, list.book.table())),
             5 | 6 => self.several(Self::coming_or_going),
             7..=10 => self.several(|list| list.house.of_property(&mut list.random, list.book.table())),
-            11 => self.several(|list| list.house.describing(&mut list.random, list.book.table())),
+            11 => self.several(Self::describing),
             12 | 13 => self.steps_back(),
             14 => self.questions(),
             _ => self.ask_everything(3),
@@ -173,6 +173,15 @@ impl List<'_> {
             self.house.state(&mut self.random)
         } else {
             self.house.removal(&mut self.random, self.book.table())
+        }
+    }
+
+    /// A description, half of the time one that is likely refused.
+    fn describing(&mut self) -> Message {
+        if self.random.once_in(2) {
+            self.house.describing(&mut self.random, self.book.table())
+        } else {
+            self.house.describing_badly(&mut self.random, self.book.table())
         }
     }
 

@@ -1,6 +1,7 @@
 //! How often each call was answered with each number.
 
 use crate::watch;
+use homie5::sys::homie5_number;
 use std::collections::BTreeMap;
 
 /// What every part of the tests answers: nothing, or what differs.
@@ -26,11 +27,11 @@ pub const LEGAL: [(&str, &[u8]); 27] = [
     ("is_datatype", &[0, 1]),
     ("is_format", &[0, 1]),
     ("is_payload", &[0, 1]),
-    ("description_judge", &[0, 15]),
-    ("description_read", &[0, 15]),
-    ("description_property", &[0, 3, 15]),
+    ("description_judge", &[0, 21, 22, 23, 24, 25]),
+    ("description_read", &[0, 21, 22, 23, 24, 25]),
+    ("description_property", &[0, 3, 21, 22, 23, 24, 25]),
     ("open", &[0, 5]),
-    ("message", &[0, 6, 7, 8, 9, 10, 11, 12, 13, 14, 15, 16, 17]),
+    ("message", &[0, 6, 7, 8, 9, 10, 11, 12, 13, 14, 16, 17, 21, 22, 23, 24, 25]),
     ("step_back", &[0, 6, 18]),
     ("device_count", &[0, 6]),
     ("device_at", &[0, 3, 6]),
@@ -54,11 +55,11 @@ impl Tally {
         Tally { slot, ..Tally::default() }
     }
 
-    /// One more call is made, and its answer is known.
-    pub fn count(&mut self, call: &'static str, number: u8) {
+    /// One more call is made, and what it returned is known.
+    pub fn count(&mut self, call: &'static str, returned: u32) {
         self.calls += 1;
         watch::moved(self.slot, self.calls);
-        *self.answers.entry((call, number)).or_default() += 1;
+        *self.answers.entry((call, homie5_number(returned))).or_default() += 1;
     }
 
     pub fn add(&mut self, other: Tally) {

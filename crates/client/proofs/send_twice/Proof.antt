@@ -4,10 +4,10 @@ use Rattle.client.proofs.send_twice.Statement.{statement}
 use Rattle.client.proofs.send_twice.Tie as tie
 use Rattle.client.proofs.send_twice.Reads as reads
 use Rattle.client.proofs.send_twice.Lts as lts
+use Rattle.questions.proofs.count.Reads as count-reads
 use Rattle.table.proofs.message.Reads as message-reads
 use Rattle.table.proofs.open.Reads as open-reads
 use Rattle.table.proofs.step_back.Reads as step-back-reads
-use Rattle.questions.proofs.count.Reads as count-reads
 
 open-requires : tie.Need-open-requires
 open-requires c κs = search needs
@@ -15,14 +15,11 @@ open-requires c κs = search needs
 enum-told : tie.Need-enum-told
 enum-told c = search needs
 
-enum-told-2 : tie.Need-enum-told-2
-enum-told-2 c = search needs
-
 same-length : tie.Need-same-length
 same-length c = search needs
 
 returns : tie.Need-returns
-returns c = refused-right _ _ _ _ _ _ (c .before .before .before .before .«open» .ensures) (c .enum-told2 .given .1)
+returns c = refused-right _ _ _ _ (c .before .before .before .«open» .result) (c .before .before .before .«open» .ensures) (c .match .keys2)
 
 message-requires : tie.Need-message-requires
 message-requires c κs = search needs
@@ -48,7 +45,6 @@ send-twice-spec =
     (tie.spec
     open-requires
     enum-told
-    enum-told-2
     same-length
     returns
     message-requires

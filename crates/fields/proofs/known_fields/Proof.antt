@@ -6,13 +6,14 @@ use Rattle.json.specs.Ends.{Ends}
 use Rattle.json.proofs.Bytes.{inside=}
 use Rattle.fields.proofs.Walk.{item-lies, item-is, falls}
 use Rattle.fields.proofs.Numbers.{zeros, at-none}
-use Rattle.fields.proofs.Fields.{Turn, Noting, note-none, note-first, note-done, note-escaped, note-more}
+use Rattle.fields.proofs.Fields.{Turn, Noting, note-none, note-first, note-done, note-more}
 use borrow.Author.Needs.{needs}
 use Rattle.fields.proofs.known_fields.Statement.{statement}
 use Rattle.fields.proofs.known_fields.Tie as tie
 use Rattle.fields.proofs.known_fields.Reads as reads
 use Rattle.fields.proofs.known_fields.Lts as lts
 use Rattle.fields.proofs.classify.Reads as classify-reads
+use Rattle.fields.proofs.more_told.Reads as more-told-reads
 use Rattle.fields.proofs.see.Reads as see-reads
 use Rattle.fields.proofs.string_bytes_by.Reads as string-bytes-by-reads
 use Rattle.json.proofs.member_by.Reads as member-by-reads
@@ -20,16 +21,16 @@ use Rattle.json.proofs.peek.Reads as peek-reads
 use Rattle.json.proofs.skip.Reads as skip-reads
 
 abbrev Inv-loop : tie.InvT-loop
-Inv-loop s at ends seen₀ i₀ seen i = Turn (Ends s ends) seen i (Noting s at seen i)
+Inv-loop owner s at ends seen₀ told₀ i₀ seen told i = Turn (Ends s ends) seen i (Noting owner s at told seen i)
 
 abbrev μ-loop : tie.MeasureT-loop
-μ-loop s at ends seen₀ i₀ seen i = length s - i
+μ-loop owner s at ends seen₀ told₀ i₀ seen told i = length s - i
 
 peek-requires : tie.Need-peek-requires Inv-loop μ-loop
 peek-requires c κs = search needs
 
 returns : tie.Need-returns Inv-loop μ-loop
-returns c = λ h. note-none _ _ (c .before .peek .ensures) _ (λ c. at-none _ c (zeros 32 c)) (c .if1 .taken) _ refl refl
+returns c = λ h. note-none _ _ _ (c .before .peek .ensures) _ (λ j. at-none _ j (zeros 16 j)) (c .if1 .taken) _ refl refl
 
 add-skip : tie.Need-add-skip Inv-loop μ-loop
 add-skip c = let h = inside= (c .before .before .before .before .args .s .now) _ 123 (sym (c .before .peek .ensures) ∙ c .if1 .left) (omega arith) in omega arith
@@ -38,7 +39,7 @@ skip-requires : tie.Need-skip-requires Inv-loop μ-loop
 skip-requires c κs = search needs
 
 loop-holds : tie.Need-loop-holds Inv-loop μ-loop
-loop-holds c = let h = inside= (c .before .before .before .before .before .args .s .now) _ 123 (sym (c .before .before .peek .ensures) ∙ c .before .if1 .left) (omega arith) in record { long = refl; from = omega (arith, c .skip .ensures .from); going = λ e. note-first _ _ (c .before .before .peek .ensures) _ (λ c. at-none _ c (zeros 32 c)) (c .before .if1 .left) (c .skip .ensures .is) (omega (arith, c .skip .ensures .to)) }
+loop-holds c = let h = inside= (c .before .before .before .before .before .args .s .now) _ 123 (sym (c .before .before .peek .ensures) ∙ c .before .if1 .left) (omega arith) in record { long = refl; from = omega (arith, c .skip .ensures .from); below = λ j. omega (arith, zeros 16 j, c .skip .ensures .from); going = λ e. note-first _ _ _ (c .before .before .peek .ensures) _ (λ j. at-none _ j (zeros 16 j)) refl (c .before .if1 .left) (c .skip .ensures .is) (omega (arith, c .skip .ensures .to)) }
 
 member-by-requires : tie.Need-member-by-requires Inv-loop μ-loop
 member-by-requires c κs = search needs
@@ -47,7 +48,7 @@ enum-told : tie.Need-enum-told Inv-loop μ-loop
 enum-told c = search needs
 
 returns-2 : tie.Need-returns-2 Inv-loop μ-loop
-returns-2 c = λ h. note-done _ _ _ _ (c .before .before .before .loop .inv .going h) (sym (c .before .before .member-by .ensures .is h) ∙ c .enum-told .given .1) _ refl refl
+returns-2 c = λ h. note-done _ _ _ _ _ _ (c .before .before .before .loop .inv .going h) (sym (c .before .before .member-by .ensures .is h) ∙ c .enum-told .given .1) _ refl refl
 
 enum-known-k : tie.Need-enum-known-k Inv-loop μ-loop
 enum-known-k c = search needs
@@ -58,17 +59,23 @@ string-bytes-by-requires c κs = search needs
 classify-requires : tie.Need-classify-requires Inv-loop μ-loop
 classify-requires c κs = search needs
 
-returns-3 : tie.Need-returns-3 Inv-loop μ-loop
-returns-3 c = λ h. note-escaped _ _ _ _ (c .before .before .before .before .before .before .before .loop .inv .going h) (item-is _ (c .before .before .before .before .before .before .member-by .ensures) (c .before .before .before .before .k .given .1) h) (c .before .before .string-bytes-by .ensures h) (c .before .classify .ensures) (c .if2 .taken) _ refl
+mul-more-told : tie.Need-mul-more-told Inv-loop μ-loop
+mul-more-told c = search needs
+
+array-read-more-told : tie.Need-array-read-more-told Inv-loop μ-loop
+array-read-more-told c = search needs
+
+more-told-requires : tie.Need-more-told-requires Inv-loop μ-loop
+more-told-requires c κs = search needs
 
 see-requires : tie.Need-see-requires Inv-loop μ-loop
-see-requires c κs = (omega (arith, c .before .if2 .left), c .before .before .before .before .before .before .before .before .loop .inv .long)
+see-requires c κs = (c .before .before .classify .ensures .low, c .before .before .before .before .before .before .before .before .loop .inv .long)
 
 loop-less : tie.Need-loop-less Inv-loop μ-loop
 loop-less c = falls (c .before .before .before .before .before .before .before .before .member-by .ensures) (c .before .before .before .before .before .before .k .given .1)
 
 loop-again : tie.Need-loop-again Inv-loop μ-loop
-loop-again c = let l = item-lies _ (c .before .before .before .before .before .before .before .before .member-by .ensures) (c .before .before .before .before .before .before .k .given .1) in record { long = c .see .ensures .long ∙ c .before .before .before .before .before .before .before .before .before .loop .inv .long; from = omega arith; going = λ h. note-more _ _ _ _ (c .before .before .before .before .before .before .before .before .before .loop .inv .going h) (item-is _ (c .before .before .before .before .before .before .before .before .member-by .ensures) (c .before .before .before .before .before .before .k .given .1) h) (c .before .before .before .before .string-bytes-by .ensures h) (c .before .before .before .classify .ensures) (omega (arith, c .before .before .if2 .left)) (c .before .before .before .before .before .before .before .before .before .loop .inv .from) (c .see .ensures) }
+loop-again c = let l = item-lies _ (c .before .before .before .before .before .before .before .before .member-by .ensures) (c .before .before .before .before .before .before .k .given .1) in record { long = c .see .ensures .long ∙ c .before .before .before .before .before .before .before .before .before .loop .inv .long; from = omega arith; below = c .see .ensures .below _ (omega arith) (λ j. let b = c .before .before .before .before .before .before .before .before .before .loop .inv .below j in omega arith); going = λ h. note-more _ _ _ _ _ _ (c .before .before .before .before .before .before .before .before .before .loop .inv .going h) (item-is _ (c .before .before .before .before .before .before .before .before .member-by .ensures) (c .before .before .before .before .before .before .k .given .1) h) (c .before .before .before .before .string-bytes-by .ensures h) (c .before .before .before .classify .ensures) (c .before .before .before .before .before .before .before .before .before .loop .inv .below _) (c .before .before .before .before .before .before .before .before .before .loop .inv .from) refl (c .before .before .more-told .ensures (c .before .before .before .classify .ensures)) (c .see .ensures) }
 
 pub known-fields-spec : {M : Type 1} → statement M
 known-fields-spec =
@@ -87,7 +94,9 @@ known-fields-spec =
     enum-known-k
     string-bytes-by-requires
     classify-requires
-    returns-3
+    mul-more-told
+    array-read-more-told
+    more-told-requires
     see-requires
     loop-less
     loop-again)

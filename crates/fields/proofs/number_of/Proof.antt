@@ -3,14 +3,6 @@ use Rattle.fields.proofs.Numbers.{of-length, no-length}
 use borrow.Author.Needs.{needs}
 use Rattle.fields.proofs.number_of.Statement.{statement}
 use Rattle.fields.proofs.number_of.Tie as tie
-use Rattle.fields.proofs.number_of.Reads as reads
-use Rattle.fields.proofs.number_of.Lts as lts
-use Rattle.fields.proofs.of_eight.Reads as of-eight-reads
-use Rattle.fields.proofs.of_five.Reads as of-five-reads
-use Rattle.fields.proofs.of_four.Reads as of-four-reads
-use Rattle.fields.proofs.of_seven.Reads as of-seven-reads
-use Rattle.fields.proofs.of_six.Reads as of-six-reads
-use Rattle.fields.proofs.of_ten.Reads as of-ten-reads
 
 of-four-requires : tie.Need-of-four-requires
 of-four-requires c κs = search needs

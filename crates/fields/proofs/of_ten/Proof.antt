@@ -3,9 +3,6 @@ use Rattle.fields.proofs.Numbers.{found, passed, none-left}
 use borrow.Author.Needs.{needs}
 use Rattle.fields.proofs.of_ten.Statement.{statement}
 use Rattle.fields.proofs.of_ten.Tie as tie
-use Rattle.fields.proofs.of_ten.Reads as reads
-use Rattle.fields.proofs.of_ten.Lts as lts
-use Rattle.text.proofs.same.Reads as same-reads
 
 slice-aggregate-same : tie.Need-slice-aggregate-same
 slice-aggregate-same c = search needs

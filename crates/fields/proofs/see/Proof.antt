@@ -1,10 +1,7 @@
-use native.Mathlib.Omega.{arith}
 use Rattle.fields.proofs.Numbers.{saw-first, saw-again}
 use borrow.Author.Needs.{needs}
 use Rattle.fields.proofs.see.Statement.{statement}
 use Rattle.fields.proofs.see.Tie as tie
-use Rattle.fields.proofs.see.Reads as reads
-use Rattle.fields.proofs.see.Lts as lts
 
 mul-if1 : tie.Need-mul-if1
 mul-if1 c = search needs
@@ -18,43 +15,12 @@ mul-seen c = search needs
 element-write-seen : tie.Need-element-write-seen
 element-write-seen c = search needs
 
-add-seen : tie.Need-add-seen
-add-seen c = search needs
-
-mul-seen-2 : tie.Need-mul-seen-2
-mul-seen-2 c = search needs
-
-element-write-seen-2 : tie.Need-element-write-seen-2
-element-write-seen-2 c = search needs
-
-add-seen-2 : tie.Need-add-seen-2
-add-seen-2 c = search needs
-
-mul-seen-3 : tie.Need-mul-seen-3
-mul-seen-3 c = search needs
-
-element-write-seen-3 : tie.Need-element-write-seen-3
-element-write-seen-3 c = search needs
-
 returns : tie.Need-returns
-returns c = saw-first _ _ _ _ (c .before .before .pre .0) (c .before .before .pre .1) (c .if1 .taken)
+returns c = saw-first _ _ _ (c .before .before .pre .0) (c .before .before .pre .1) (c .if1 .taken)
 
 returns-2 : tie.Need-returns-2
-returns-2 c = saw-again _ _ _ _ (c .before .before .pre .0) (c .before .before .pre .1) (c .if1 .left)
+returns-2 c = saw-again _ _ _ (c .before .before .pre .0) (c .before .before .pre .1) (c .if1 .left)
 
 pub see-spec : {M : Type 1} → statement M
 see-spec =
-    tie.close
-    (tie.spec
-    mul-if1
-    element-copy-out-if1
-    mul-seen
-    element-write-seen
-    add-seen
-    mul-seen-2
-    element-write-seen-2
-    add-seen-2
-    mul-seen-3
-    element-write-seen-3
-    returns
-    returns-2)
+    tie.close (tie.spec mul-if1 element-copy-out-if1 mul-seen element-write-seen returns returns-2)

@@ -1,31 +1,24 @@
 use Prim.Native.Nat.{_-_}
 use lib.ListN.{take}
 use mathlib.Core.Path.{refl}
+use native.Mathlib.Omega.{arith}
 use Rattle.json.specs.Ends.{Ends}
 use Rattle.properties.specs.Property.{insert}
 use Rattle.properties.specs.Entries.{content, contents}
 use Rattle.properties.proofs.Good.{full}
-use Rattle.properties.proofs.Insertion.{Carrying, carry-start, carry-swap, carry-keep, room-over, room-for, put-full, put-some}
+use Rattle.properties.proofs.Insertion.{Carrying, carry-start, carry-swap, carry-keep, stays-full, is-inserted}
 use borrow.Author.Needs.{needs}
 use Rattle.properties.proofs.insert.Statement.{statement}
 use Rattle.properties.proofs.insert.Tie as tie
-use Rattle.properties.proofs.insert.Reads as reads
-use Rattle.properties.proofs.insert.Lts as lts
-use Rattle.fields.proofs.string_bytes_by.Reads as string-bytes-by-reads
-use Rattle.properties.proofs.is_full.Reads as is-full-reads
-use Rattle.properties.proofs.takes_place.Reads as takes-place-reads
 
 abbrev Inv-loop : tie.InvT-loop
-Inv-loop s e ends over n items₀ node id carry₀ placed₀ j₀ items carry placed j = Carrying (Ends s ends) s n e (insert (content s e) (contents s (take n items₀))) items carry placed j
+Inv-loop s e ends n items₀ node id carry₀ placed₀ j₀ items carry placed j = Carrying (Ends s ends) s n e (insert (content s e) (contents s (take n items₀))) items carry placed j
 
 abbrev μ-loop : tie.MeasureT-loop
-μ-loop s e ends over n items₀ node id carry₀ placed₀ j₀ items carry placed j = n - j
-
-is-full-requires : tie.Need-is-full-requires Inv-loop μ-loop
-is-full-requires c κs = search needs
+μ-loop s e ends n items₀ node id carry₀ placed₀ j₀ items carry placed j = n - j
 
 returns : tie.Need-returns Inv-loop μ-loop
-returns c = λ h. put-full _ _ _ _ (full (c .before .before .before .before .before .args .l) _ (c .before .before .before .before .before .good .1 .1 .0)) (c .before .is-full .ensures) (c .if1 .taken) refl
+returns c = λ h. stays-full _ _ _ _ (omega arith) refl
 
 string-bytes-by-requires : tie.Need-string-bytes-by-requires Inv-loop μ-loop
 string-bytes-by-requires c κs = search needs
@@ -34,7 +27,7 @@ string-bytes-by-requires-2 : tie.Need-string-bytes-by-requires-2 Inv-loop μ-loo
 string-bytes-by-requires-2 c κs = search needs
 
 loop-holds : tie.Need-loop-holds Inv-loop μ-loop
-loop-holds c = carry-start _ _ _ _ (room-for (c .before .before .before .before .before .before .before .args .l .over) _ (c .before .before .before .is-full .ensures) (c .before .before .if1 .left)) (full (c .before .before .before .before .before .before .before .args .l) _ (c .before .before .before .before .before .before .before .good .1 .1 .0))
+loop-holds c = carry-start _ _ _ _ (omega arith) (full (c .before .before .before .before .before .before .args .l) _ (c .before .before .before .before .before .before .good .1 .1 .0))
 
 mul-y : tie.Need-mul-y Inv-loop μ-loop
 mul-y c = search needs
@@ -78,11 +71,11 @@ mul-items-2 c = search needs
 array-set-from-items-2 : tie.Need-array-set-from-items-2 Inv-loop μ-loop
 array-set-from-items-2 c = search needs
 
-add-t29 : tie.Need-add-t29 Inv-loop μ-loop
-add-t29 c = search needs
+add-t27 : tie.Need-add-t27 Inv-loop μ-loop
+add-t27 c = search needs
 
 returns-2 : tie.Need-returns-2 Inv-loop μ-loop
-returns-2 c = λ h. put-some _ _ _ _ (full (c .before .before .before .before .before .before .before .before .before .args .l) _ (c .before .before .before .before .before .before .before .before .before .good .1 .1 .0)) (c .before .before .before .before .before .before .before .before .before .args .e) (room-over _ (c .before .before .before .before .before .before .before .before .before .args .l .n) (c .before .before .before .before .before .is-full .ensures) (c .before .before .before .before .if1 .left)) (c .before .loop .inv) h (c .loop-test .left) refl refl refl
+returns-2 c = λ h. is-inserted _ _ _ _ (c .before .before .before .before .before .before .before .before .args .e) (c .before .loop .inv) h (c .loop-test .left) refl refl
 
 pub insert-spec : {M : Type 1} → statement M
 insert-spec =
@@ -90,7 +83,6 @@ insert-spec =
     (tie.spec
     Inv-loop
     μ-loop
-    is-full-requires
     returns
     string-bytes-by-requires
     string-bytes-by-requires-2
@@ -109,5 +101,5 @@ insert-spec =
     loop-again-2
     mul-items-2
     array-set-from-items-2
-    add-t29
+    add-t27
     returns-2)

@@ -2,11 +2,6 @@ use Rattle.properties.proofs.Insertion.{before-own, before-yes, before-
 use borrow.Author.Needs.{needs}
 use Rattle.properties.proofs.is_before.Statement.{statement}
 use Rattle.properties.proofs.is_before.Tie as tie
-use Rattle.properties.proofs.is_before.Reads as reads
-use Rattle.properties.proofs.is_before.Lts as lts
-use Rattle.fields.proofs.string_bytes_by.Reads as string-bytes-by-reads
-use Rattle.text.proofs.precedes.Reads as precedes-reads
-use Rattle.text.proofs.same.Reads as same-reads
 
 string-bytes-by-requires : tie.Need-string-bytes-by-requires
 string-bytes-by-requires c κs = search needs

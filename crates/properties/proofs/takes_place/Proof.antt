@@ -2,9 +2,6 @@ use Rattle.fields.proofs.Rules.{or-yes, or-no}
 use borrow.Author.Needs.{needs}
 use Rattle.properties.proofs.takes_place.Statement.{statement}
 use Rattle.properties.proofs.takes_place.Tie as tie
-use Rattle.properties.proofs.takes_place.Reads as reads
-use Rattle.properties.proofs.takes_place.Lts as lts
-use Rattle.properties.proofs.is_before.Reads as is-before-reads
 
 returns : tie.Need-returns
 returns c = λ b p q h. or-yes _ _ (c .if1 .taken)

@@ -3,6 +3,10 @@ use Rattle.lines.proofs.Adding.{put-adds}
 use borrow.Author.Needs.{needs}
 use Rattle.judge.proofs.say.taken.Statement.{statement}
 use Rattle.judge.proofs.say.taken.Tie as tie
+use Rattle.judge.proofs.say.taken.Reads as reads
+use Rattle.judge.proofs.say.taken.Lts as lts
+use Rattle.judge.proofs.say.refused_at.Reads as refused-at-reads
+use Rattle.lines.proofs.out.put.Reads as put-reads
 
 enum-told : tie.Need-enum-told
 enum-told c = search needs
@@ -13,11 +17,11 @@ slice-aggregate-put c = search needs
 put-requires : tie.Need-put-requires
 put-requires c κs = tt
 
-enum-known-v : tie.Need-enum-known-v
-enum-known-v c = search needs
+enum-known-t : tie.Need-enum-known-t
+enum-known-t c = search needs
 
-refused-requires : tie.Need-refused-requires
-refused-requires c κs = tt
+refused-at-requires : tie.Need-refused-at-requires
+refused-at-requires c κs = tt
 
 same-length : tie.Need-same-length
 same-length c = search needs
@@ -29,7 +33,7 @@ same-length-2 : tie.Need-same-length-2
 same-length-2 c = search needs
 
 returns-2 : tie.Need-returns-2
-returns-2 c = says (not-taken _ (c .before .before .before .before .before .v .given .1)) (c .before .before .refused .ensures)
+returns-2 c = says (not-taken _ (c .before .before .before .before .before .t .given .1)) (c .before .before .refused-at .ensures)
 
 pub taken-spec : {M : Type 1} → statement M
 taken-spec =
@@ -38,8 +42,8 @@ taken-spec =
     enum-told
     slice-aggregate-put
     put-requires
-    enum-known-v
-    refused-requires
+    enum-known-t
+    refused-at-requires
     same-length
     returns
     same-length-2

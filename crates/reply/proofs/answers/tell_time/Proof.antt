@@ -8,6 +8,9 @@ use Rattle.reply.proofs.answers.tell_time.Tie as tie
 enum-known-a : tie.Need-enum-known-a
 enum-known-a c = search needs
 
+cast-result : tie.Need-cast-result
+cast-result c = search needs
+
 enum-told : tie.Need-enum-told
 enum-told c = search needs
 
@@ -46,6 +49,7 @@ tell-time-spec =
     tie.close
     (tie.spec
     enum-known-a
+    cast-result
     enum-told
     tell-value-requires
     enum-known-a-2

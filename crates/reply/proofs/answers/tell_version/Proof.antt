@@ -9,6 +9,9 @@ use Rattle.reply.proofs.answers.tell_version.Tie as tie
 enum-known-a : tie.Need-enum-known-a
 enum-known-a c = search needs
 
+cast-result : tie.Need-cast-result
+cast-result c = search needs
+
 enum-told : tie.Need-enum-told
 enum-told c = search needs
 
@@ -49,6 +52,7 @@ tell-version-spec =
     tie.close
     (tie.spec
     enum-known-a
+    cast-result
     enum-told
     tell-value-requires
     enum-known-a-2

@@ -1,7 +1,7 @@
 use Rattle.fields.specs.Fields.{textIn}
 use Rattle.properties.specs.Property.{textOf}
 use Rattle.reply.specs.Descriptions.{isGiven}
-use Rattle.reply.proofs.Declared.{given-told, given-one}
+use Rattle.reply.proofs.Declared.{given-told, given-first}
 use borrow.Author.Needs.{needs}
 use Rattle.reply.proofs.descriptions.is_given.Statement.{statement}
 use Rattle.reply.proofs.descriptions.is_given.Tie as tie
@@ -15,21 +15,14 @@ enum-known-f c = search needs
 string-bytes-requires : tie.Need-string-bytes-requires
 string-bytes-requires c κs = search needs
 
-enum-told-2 : tie.Need-enum-told-2
-enum-told-2 c = search needs
-
 returns : tie.Need-returns
 unfolding isGiven textOf textIn
 returns c = given-told (c .before .before .before .args .s .now) _ _ (c .enum-told .given .1)
 
 returns-2 : tie.Need-returns-2
-returns-2 c = given-one (c .before .before .before .before .before .args .s .now) _ _ _ (c .before .before .f .given .1) (c .string-bytes .ensures)
-
-returns-3 : tie.Need-returns-3
-unfolding isGiven textOf textIn
-returns-3 c = given-told (c .before .before .before .args .s .now) _ _ (c .enum-told2 .given .1)
+returns-2 c = given-first (c .before .before .before .before .before .args .s .now) _ _ _ (c .before .before .f .given .1) (c .string-bytes .ensures)
 
 pub is-given-spec : {M : Type 1} → statement M
 is-given-spec =
     tie.close
-    (tie.spec enum-told enum-known-f string-bytes-requires enum-told-2 returns returns-2 returns-3)
+    (tie.spec enum-told enum-known-f string-bytes-requires returns returns-2)

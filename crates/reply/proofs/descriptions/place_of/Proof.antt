@@ -10,9 +10,6 @@ enum-told c = search needs
 enum-known-f : tie.Need-enum-known-f
 enum-known-f c = search needs
 
-enum-told-2 : tie.Need-enum-told-2
-enum-told-2 c = search needs
-
 returns : tie.Need-returns
 unfolding place
 returns c = sym (ap place (c .enum-told .given .1))
@@ -21,9 +18,5 @@ returns-2 : tie.Need-returns-2
 unfolding place
 returns-2 c = sym (ap place (c .before .f .given .1))
 
-returns-3 : tie.Need-returns-3
-unfolding place
-returns-3 c = sym (ap place (c .enum-told2 .given .1))
-
 pub place-of-spec : {M : Type 1} → statement M
-place-of-spec = tie.close (tie.spec enum-told enum-known-f enum-told-2 returns returns-2 returns-3)
+place-of-spec = tie.close (tie.spec enum-told enum-known-f returns returns-2)

@@ -1,12 +1,27 @@
-use borrow.Author.Tests.{not-true, not-false}
+use Rattle.reply.proofs.Declared.{told-fits, description-refused, description-shown}
 use Rattle.reply.proofs.Out.{refusal, reply-as}
-use Rattle.reply.proofs.Declared.{description-refused, description-shown}
 use borrow.Author.Needs.{needs}
 use Rattle.reply.proofs.descriptions.tell_description.Statement.{statement}
 use Rattle.reply.proofs.descriptions.tell_description.Tie as tie
+use Rattle.reply.proofs.descriptions.tell_description.Reads as reads
+use Rattle.reply.proofs.descriptions.tell_description.Lts as lts
+use Rattle.reply.proofs.descriptions.place_of.Reads as place-of-reads
+use Rattle.reply.proofs.descriptions.presence_of.Reads as presence-of-reads
+use Rattle.reply.proofs.refusal_code.Reads as refusal-code-reads
+use Rattle.reply.proofs.tell.Reads as tell-reads
+use Rattle.reply.proofs.twos_complement.Reads as twos-complement-reads
+
+enum-known-told : tie.Need-enum-known-told
+enum-known-told c = search needs
+
+refusal-code-requires : tie.Need-refusal-code-requires
+refusal-code-requires c κs = told-fits _ _ _ (c .before .before .before .before .pre) (c .before .told .given .1)
 
 returns : tie.Need-returns
-returns c = refusal _ 15 _ (description-refused _ (not-true _ (c .if1 .taken)))
+returns c = refusal _ _ _ (description-refused _ _ _ _ (c .before .before .told .given .1) (c .refusal-code .ensures))
+
+enum-told : tie.Need-enum-told
+enum-told c = search needs
 
 twos-complement-requires : tie.Need-twos-complement-requires
 twos-complement-requires c κs = search needs
@@ -33,13 +48,16 @@ same-length : tie.Need-same-length
 same-length c = search needs
 
 returns-2 : tie.Need-returns-2
-returns-2 c = reply-as _ _ _ _ _ (description-shown _ _ _ _ _ _ (not-false _ (c .before .before .before .before .before .before .before .before .before .before .before .if1 .left)) (c .before .before .before .before .before .before .before .before .before .twos-complement .ensures) (c .before .before .before .before .before .before .before .before .presence-of .ensures) (c .before .before .before .before .before .before .before .place-of .ensures) (c .before .before .before .before .before .before .presence-of2 .ensures) (c .before .before .before .before .before .place-of2 .ensures)) (c .before .before .tell .ensures)
+returns-2 c = reply-as _ _ _ _ _ (description-shown _ _ _ _ _ _ (c .before .before .before .before .before .before .before .before .before .before .before .enum-told .given .1) (c .before .before .before .before .before .before .before .before .before .twos-complement .ensures) (c .before .before .before .before .before .before .before .before .presence-of .ensures) (c .before .before .before .before .before .before .before .place-of .ensures) (c .before .before .before .before .before .before .presence-of2 .ensures) (c .before .before .before .before .before .place-of2 .ensures)) (c .before .before .tell .ensures)
 
 pub tell-description-spec : {M : Type 1} → statement M
 tell-description-spec =
     tie.close
     (tie.spec
+    enum-known-told
+    refusal-code-requires
     returns
+    enum-told
     twos-complement-requires
     presence-of-requires
     place-of-requires

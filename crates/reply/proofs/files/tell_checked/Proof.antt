@@ -8,6 +8,9 @@ use Rattle.reply.proofs.files.tell_checked.Tie as tie
 enum-known-a : tie.Need-enum-known-a
 enum-known-a c = search needs
 
+cast-result : tie.Need-cast-result
+cast-result c = search needs
+
 enum-known-a-2 : tie.Need-enum-known-a-2
 enum-known-a-2 c = search needs
 
@@ -28,4 +31,4 @@ returns-2 c = reply-as _ _ _ _ _ (ap showChecked (c .before .before .before .bef
 pub tell-checked-spec : {M : Type 1} → statement M
 tell-checked-spec =
     tie.close
-    (tie.spec enum-known-a enum-known-a-2 tell-value-requires returns same-length returns-2)
+    (tie.spec enum-known-a cast-result enum-known-a-2 tell-value-requires returns same-length returns-2)

@@ -14,6 +14,9 @@ flag-number-requires c κs = search needs
 enum-known-t : tie.Need-enum-known-t
 enum-known-t c = search needs
 
+cast-result : tie.Need-cast-result
+cast-result c = search needs
+
 tell-value-requires : tie.Need-tell-value-requires
 tell-value-requires c κs = search needs
 
@@ -33,6 +36,7 @@ tell-flag-spec =
     flag-of-requires
     flag-number-requires
     enum-known-t
+    cast-result
     tell-value-requires
     returns
     same-length

@@ -8,6 +8,9 @@ use Rattle.reply.proofs.judgements.tell_topic.Tie as tie
 enum-known-t : tie.Need-enum-known-t
 enum-known-t c = search needs
 
+cast-result : tie.Need-cast-result
+cast-result c = search needs
+
 enum-known-t-2 : tie.Need-enum-known-t-2
 enum-known-t-2 c = search needs
 
@@ -134,6 +137,7 @@ tell-topic-spec =
     tie.close
     (tie.spec
     enum-known-t
+    cast-result
     enum-known-t-2
     tell-one-requires
     enum-known-t-3

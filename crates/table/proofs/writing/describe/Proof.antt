@@ -1,15 +1,25 @@
 use native.Mathlib.Omega.{arith}
-use borrow.Author.Tests.{not-true, not-false}
 use Rattle.table.proofs.Obeying.{described, described-not}
 use borrow.Author.Needs.{needs}
 use Rattle.table.proofs.writing.describe.Statement.{statement}
 use Rattle.table.proofs.writing.describe.Tie as tie
+use Rattle.table.proofs.writing.describe.Reads as reads
+use Rattle.table.proofs.writing.describe.Lts as lts
+use Rattle.description.proofs.describe.Reads as describe-reads
+use Rattle.imprint.proofs.description.Reads as description-reads
+use Rattle.table.proofs.writing.patch.Reads as patch-reads
 
 describe-requires : tie.Need-describe-requires
 describe-requires c κs = search needs
 
+enum-known-told : tie.Need-enum-known-told
+enum-known-told c = search needs
+
 returns : tie.Need-returns
-returns c = described-not _ _ _ _ _ _ (c .before .before .describe .ensures) (not-true _ (c .if1 .taken))
+returns c = described-not _ _ _ _ _ _ (c .before .before .before .describe .ensures) _ _ (c .before .told .given .1)
+
+enum-told : tie.Need-enum-told
+enum-told c = search needs
 
 description-requires : tie.Need-description-requires
 description-requires c κs = search needs
@@ -30,14 +40,16 @@ same-length : tie.Need-same-length
 same-length c = search needs
 
 returns-2 : tie.Need-returns-2
-returns-2 c = described _ _ _ _ _ _ (c .before .before .before .before .before .before .before .before .before .describe .ensures) (not-false _ (c .before .before .before .before .before .before .before .if1 .left)) (c .before .before .before .before .before .before .description .result) (omega (arith, c .before .before .before .before .before .before .description .ok)) (c .before .before .before .before .before .before .description .ensures) _ _ 7789 (c .before .before .patch .ensures) (omega (arith, c .before .before .before .before .before .before .description .ok))
+returns-2 c = described _ _ _ _ _ _ (c .before .before .before .before .before .before .before .before .before .describe .ensures) (c .before .before .before .before .before .before .before .enum-told .given .1) (c .before .before .before .before .before .before .description .result) (omega (arith, c .before .before .before .before .before .before .description .ok)) (c .before .before .before .before .before .before .description .ensures) _ _ 7789 (c .before .before .patch .ensures) (omega (arith, c .before .before .before .before .before .before .description .ok))
 
 pub describe-spec : {M : Type 1} → statement M
 describe-spec =
     tie.close
     (tie.spec
     describe-requires
+    enum-known-told
     returns
+    enum-told
     description-requires
     sub-patch
     part-patch-start

@@ -9,6 +9,9 @@ use Rattle.viewer.proofs.files.tell_reading.Tie as tie
 enum-known-a : tie.Need-enum-known-a
 enum-known-a c = search needs
 
+cast-result : tie.Need-cast-result
+cast-result c = search needs
+
 enum-known-a-2 : tie.Need-enum-known-a-2
 enum-known-a-2 c = search needs
 
@@ -39,6 +42,7 @@ tell-reading-spec =
     tie.close
     (tie.spec
     enum-known-a
+    cast-result
     enum-known-a-2
     event-values-requires
     array-share-prefix-vs

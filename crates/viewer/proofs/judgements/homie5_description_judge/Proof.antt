@@ -1,7 +1,12 @@
+use Rattle.viewer.proofs.Passing.{place-fits}
 use Rattle.viewer.proofs.Judged.{taken, not-taken}
 use borrow.Author.Needs.{needs}
 use Rattle.viewer.proofs.judgements.homie5_description_judge.Statement.{statement}
 use Rattle.viewer.proofs.judgements.homie5_description_judge.Tie as tie
+use Rattle.viewer.proofs.judgements.homie5_description_judge.Reads as reads
+use Rattle.viewer.proofs.judgements.homie5_description_judge.Lts as lts
+use Rattle.description.proofs.judge.Reads as judge-reads
+use Rattle.reply.proofs.refusal_code.Reads as refusal-code-reads
 
 judge-requires : tie.Need-judge-requires
 judge-requires c κs = search needs
@@ -9,15 +14,19 @@ judge-requires c κs = search needs
 enum-told : tie.Need-enum-told
 enum-told c = search needs
 
-enum-known-k : tie.Need-enum-known-k
-enum-known-k c = search needs
+enum-known-place : tie.Need-enum-known-place
+enum-known-place c = search needs
+
+refusal-code-requires : tie.Need-refusal-code-requires
+refusal-code-requires c κs = place-fits _ _ _ _ _ (c .before .before .before .judge .ensures) (c .before .place .given .1)
 
 returns : tie.Need-returns
 returns c = taken _ _ _ (c .before .before .judge .ensures) (c .enum-told .given .1)
 
 returns-2 : tie.Need-returns-2
-returns-2 c = not-taken _ _ _ (c .before .before .before .judge .ensures) _ (c .before .k .given .1)
+returns-2 c = not-taken _ _ _ (c .before .before .before .before .judge .ensures) _ _ _ (c .before .before .place .given .1) (c .refusal-code .ensures)
 
 pub homie5-description-judge-spec : {M : Type 1} → statement M
 homie5-description-judge-spec =
-    tie.close (tie.spec judge-requires enum-told enum-known-k returns returns-2)
+    tie.close
+    (tie.spec judge-requires enum-told enum-known-place refusal-code-requires returns returns-2)
