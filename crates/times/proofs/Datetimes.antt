@@ -1,11 +1,11 @@
 -- The code's three tests of a datetime are the grammar and the calendar.
-use Prim.Native.Nat.{ℕ, zero, suc, _+_, _*_, _-_, _<_, _≤_}
+use Prim.Native.Nat.{ℕ, suc, _+_, _*_, _-_, _<_, _≤_}
 use native.Mathlib.Numerals.{add-one}
 use native.Mathlib.Omega.{arith}
 use mathlib.Core.Path.{_≡_, refl, sym, ap, _∙_}
-use mathlib.Core.List.{List, [], _∷_}
+use mathlib.Core.List.{List, _∷_}
 use mathlib.Core.Bool.{Bool, true, false, not, _&&_, _||_, cond, and-false, and-true, and-assoc, and-comm, or-false, or-true, false≢true}
-use lib.ListN.{length, drop, take, getD, drop-of-length-le}
+use lib.ListN.{length, drop, take, drop-of-length-le}
 use lib.Seq.{drop-cons}
 use lib.Dec.{leb, ltb, eqb, lit<}
 use borrow.Author.Tests.{leb-true, leb-false, le-leb, lt-leb, eq-eqb, ne-eqb, eqb-true, eqb-false, ltb-true, ltb-false}
@@ -13,9 +13,10 @@ use Rattle.abnf.specs.Abnf.{Abnf, _–_, ε, _·_, _/_, x, opt, times, upTo, re
 use Rattle.abnf.specs.Accepts.{inRange, isEmpty, starts, accepts}
 use Rattle.abnf.proofs.Accepts.{and-both}
 use Rattle.abnf.proofs.Steps.{both, same-test, range-true, in-range, starts-byte, starts-x, starts-either, starts-opt, empty-at}
-use Rattle.times.specs.Datetime.{DIGIT, hour, sixtieth, date, clock, fraction, zone, datetime, numberFrom, monthLengths, monthLength, isLeap, isDate, isDatetime}
+use Rattle.times.specs.Datetime.{DIGIT, hour, sixtieth, date, clock, fraction, zone, datetime, numberFrom, monthLength, isDate, isDatetime}
 use Rattle.times.specs.Parts.{byteAt, digitOf, pairOf, pairAt, digits, isClock, isSign, dateAt, timeAt, zoneAt, endingAt}
 use Rattle.times.proofs.Bytes.{byte-past}
+use Rattle.times.proofs.Dates.{month-most}
 use Rattle.times.proofs.Grammar.{Digits, pair-digits, starts-hour, starts-sixtieth, starts-pair}
 use Rattle.times.proofs.Runs.{starts-run}
 
@@ -175,25 +176,6 @@ year-pairs s e f =
     ap (λ (t : List ℕ). numberFrom 0 (take 4 t)) (drop-two s 0 e)
     ∙ ap (λ (n : ℕ). numberFrom n (take 2 (drop 2 s))) n
     ∙ number-pair (pairAt s 0) s 2 f
-
--- no month has 32 days
-most : List ℕ → ℕ → Bool
-most [] n = true
-most (x ∷ l) n = leb x n && most l n
-
-entry-most : (l : List ℕ) (n i : ℕ) → most l n ≡ true → getD l i 0 ≤ n
-unfolding most
-entry-most [] n i e = omega arith
-entry-most (x ∷ l) n zero e = leb-true x n (and-both (leb x n) (most l n) e .0)
-entry-most (x ∷ l) n (suc i) e = entry-most l n i (and-both (leb x n) (most l n) e .1)
-
-month-most : (year month : ℕ) → monthLength year month ≤ 31
-unfolding monthLength most
-month-most year month = pick (eqb month 2 && isLeap year) (entry-most monthLengths 31 (month - 1) refl)
-  where
-    pick : (t : Bool) {n : ℕ} → n ≤ 31 → cond t 29 n ≤ 31
-    pick true h = omega arith
-    pick false h = h
 
 date-numbers : (year month day : ℕ) → isDate year month day ≡ true → (month ≤ 99) × (day ≤ 99)
 unfolding isDate

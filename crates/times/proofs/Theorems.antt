@@ -1,6 +1,6 @@
--- What the crate promises: the tests hold exactly for the words of the grammars, datetimes of the calendar.
+-- What the crate promises: the tests hold exactly for the words of the grammars, datetimes of the calendar; months have the calendar's lengths.
 use Prim.Native.Nat.{ℕ}
-use mathlib.Core.Path.{_≡_, ap, _∙_}
+use mathlib.Core.Path.{_≡_, sym, ap, _∙_}
 use mathlib.Core.List.{List}
 use mathlib.Core.Bool.{Bool, true, _&&_}
 use mathlib.Core.Logic.{_↔_}
@@ -10,7 +10,9 @@ use Rattle.abnf.specs.Accepts.{accepts}
 use Rattle.abnf.proofs.Accepts.{and-both}
 use Rattle.abnf.proofs.Theorems.{accepts-is}
 use Rattle.times.specs.Datetime.{datetime, number, isDate, isDatetime}
+use Rattle.times.specs.Calendar.{MonthLengths}
 use Rattle.times.specs.Duration.{duration, isDuration}
+use Rattle.times.proofs.Dates.{february-is, leap-years, thirty, thirty-one}
 
 both-hold : {a b : Bool} → a ≡ true → b ≡ true → (a && b) ≡ true
 both-hold e f = rw e f
@@ -25,3 +27,12 @@ datetime-is s = (
 pub duration-is : (s : List ℕ) → (isDuration s ≡ true) ↔ (s ∈ duration)
 unfolding isDuration
 duration-is s = accepts-is duration s
+
+-- every month of every year, so of the years 0000 to 9999
+pub month-lengths : (year : ℕ) → MonthLengths year
+month-lengths year = record {
+  thirty = λ month h. sym (thirty year month h);
+  february = february-is year;
+  leap = leap-years year;
+  other = λ month h k two four. sym (thirty-one year month two four);
+}

@@ -2,7 +2,7 @@
 use Prim.Native.Nat.{ℕ, zero, suc, _+_, _*_, _-_, _%_}
 use mathlib.Core.List.{List, [], _∷_}
 use mathlib.Core.Bool.{Bool, true, false, not, _&&_, _||_, cond}
-use lib.ListN.{getD, take, drop}
+use lib.ListN.{take, drop}
 use lib.Dec.{eqb, leb}
 use Rattle.abnf.specs.Abnf.{Abnf, _–_, ε, _·_, _/_, x, opt, times, repeat}
 use Rattle.abnf.specs.Accepts.{accepts}
@@ -46,17 +46,18 @@ numberFrom n (b ∷ s) = numberFrom (10 * n + (b - 48)) s
 abbrev pub number : List ℕ → ℕ
 number s = numberFrom 0 s
 
--- "Gregorian dates of years 0000 to 9999": every fourth year, but of the hundredth only the four hundredth
+-- "Gregorian dates of years 0000 to 9999": a leap year is one that 4 divides, and 100 does not, unless 400 does
 unfoldable pub isLeap : ℕ → Bool
 isLeap year = eqb (year % 4) 0 && (not (eqb (year % 100) 0) || eqb (year % 400) 0)
 
--- "month lengths stand in a table of twelve"
-unfoldable pub monthLengths : List ℕ
-monthLengths = 31 ∷ 28 ∷ 31 ∷ 30 ∷ 31 ∷ 30 ∷ 31 ∷ 31 ∷ 30 ∷ 31 ∷ 30 ∷ 31 ∷ []
+-- April, June, September and November
+unfoldable pub hasThirtyDays : ℕ → Bool
+hasThirtyDays month = eqb month 4 || (eqb month 6 || (eqb month 9 || eqb month 11))
 
+-- Paper 02, K10, "Month lengths by rule": February has 28 days, 29 in a leap year; of the other months four have 30, the rest 31
 unfoldable pub monthLength : ℕ → ℕ → ℕ
-unfolding isLeap monthLengths
-monthLength year month = cond (eqb month 2 && isLeap year) 29 (getD monthLengths (month - 1) 0)
+unfolding isLeap hasThirtyDays
+monthLength year month = cond (eqb month 2) (cond (isLeap year) 29 28) (cond (hasThirtyDays month) 30 31)
 
 unfoldable pub isDate : ℕ → ℕ → ℕ → Bool
 unfolding monthLength

@@ -1,3 +1,4 @@
+pub mod Calendar
 pub mod Datetime
 pub mod Duration
 pub mod Parts

@@ -8,8 +8,6 @@ ghost use Rattle.times.specs.Datetime.{isLeap, monthLength, isDate, isDa
 ghost use Rattle.times.specs.Duration.{isDuration};
 ghost use Rattle.times.specs.Parts.{byteAt, digitOf, pairAt, digits, isClock, isSign, dateAt, timeAt, zoneAt, endingAt, spanEnd};
 
-const MONTH_LENGTHS: [u8; 12] = [31, 28, 31, 30, 31, 30, 31, 31, 30, 31, 30, 31];
-
 // Whether the byte `b` stands at `at`.
 fn has(s: &[u8], at: usize, b: u8) -> bool
     ensures { λ r. ⌜ r ≡ eqb (byteAt (now (s .entry)) at) b ⌝ }
@@ -62,15 +60,16 @@ fn is_leap(year: u16) -> bool
     year % 400 == 0
 }
 
+// February has 28 days, 29 in a leap year; April, June, September and November have 30, the others 31.
 fn month_length(year: u16, month: u8) -> u8
     requires { ⌜ (1 ≤ month) × (month ≤ 12) ⌝ }
     ensures { λ r. ⌜ r ≡ monthLength year month ⌝ }
 {
-    let length = MONTH_LENGTHS[(month - 1) as usize];
-    if month != 2 {
-        return length;
+    match month {
+        2 => { if is_leap(year) { 29 } else { 28 } }
+        4 | 6 | 9 | 11 => 30,
+        _ => 31,
     }
-    if is_leap(year) { 29 } else { length }
 }
 
 fn is_date(year: u16, month: u8, day: u8) -> bool
