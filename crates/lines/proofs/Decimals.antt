@@ -1,11 +1,11 @@
 -- The digits that `io::decimal` writes are those of the definition.
 use Prim.Native.Nat.{ℕ, zero, suc, _+_, _-_, _*_, _/_, _%_, _^_, _≤_, _<_}
-use mathlib.Core.Path.{_≡_, refl, ap, _∙_}
-use mathlib.Core.List.{List, [], _∷_, _++_}
+use mathlib.Core.Path.{_≡_}
+use mathlib.Core.List.{List}
 use native.Mathlib.Omega.{arith}
 use native.Mathlib.Nat.{pow-suc, one-le-pow, pow-le-pow-right}
 use Rattle.text.proofs.Bytes.{at-most}
-use lib.Dec.{ltb, lit<}
+use lib.Dec.{lit<}
 use borrow.Author.Tests.{le-ltb, lt-ltb}
 use Rattle.io.specs.Digits.{digits, glyph, Fewest}
 use Rattle.lines.specs.Out.{Puts}

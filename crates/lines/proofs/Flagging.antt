@@ -2,8 +2,8 @@
 use Prim.Native.Nat.{ℕ}
 use mathlib.Core.Path.{_≡_}
 use mathlib.Core.List.{List}
-use mathlib.Core.Bool.{Bool, true, false}
-use mathlib.Core.Option.{Option, none, some}
+use mathlib.Core.Bool.{true, false}
+use mathlib.Core.Option.{none, some}
 use Rattle.text.specs.Ascii.{ascii}
 use Rattle.text.specs.Bytes.{eqBytes}
 use Rattle.lines.specs.Flag.{flagOf}

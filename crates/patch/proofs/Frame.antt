@@ -15,7 +15,6 @@ use Rattle.memory.specs.Layout.{roomSize}
 use Rattle.memory.proofs.Flat.{span-same, num-same, put-below, put-in, put-above}
 use Rattle.memory.proofs.Lists.{tab-ext}
 use Rattle.payload.specs.Datatypes.{datatypeAt}
-use Rattle.properties.specs.Property as declaration
 use Rattle.rules.specs.States.{stateAt}
 use Rattle.rules.specs.Table.{Held, Property, Description}
 use Rattle.rules.specs.Find.{inDescription}

@@ -1,14 +1,13 @@
 -- What descriptions declare.
-use mathlib.Core.Path.{_≡_, refl, sym, ap, _∙_, subst}
+use mathlib.Core.Path.{_≡_, refl, sym, ap, _∙_}
 use mathlib.Core.List.{List, [], _∷_}
-use mathlib.Core.Bool.{Bool, true, false, cond}
+use mathlib.Core.Bool.{Bool, true, false}
 use Prim.Native.Nat.{ℕ, zero, suc, _^_, _≤_, _<_}
 use native.Mathlib.Omega.{arith}
 use lib.ListN.{length, take, getD}
 use lib.Dec.{ltb}
 use mir.Val.{boolByte}
 use Rattle.answer.specs.Answer.{placed}
-use Rattle.faults.specs.declared.Told.{Told}
 use Rattle.faults.specs.declared.Told.the-variants.{Nothing, At}
 use Rattle.numbers.specs.Whole.{stands}
 use Rattle.payload.specs.Datatypes.{codeOf}
@@ -21,26 +20,16 @@ use Rattle.fields.specs.declared.Field.the-variants.{First}
 use Rattle.properties.specs.Property.{textOf}
 use Rattle.properties.specs.declared.Entry.{Entry}
 use Rattle.description.specs.declared.Description.{Description}
-use Rattle.reply.specs.Reply.{Reply, says, refuses, refusalCode, placesBelow, bit, twosComplement}
-use Rattle.reply.specs.Descriptions.{presence, place, isGiven, keptNumber, formatPlace, entryValues, entryAt, unlessTold, ToldFits, showDescription, showDeclared}
-use Rattle.table.specs.declared.Outcome.{Outcome}
-use Rattle.table.specs.declared.Outcome.the-variants.{Faulty}
-use Rattle.reply.specs.Answers.{OutcomeFits}
+use Rattle.reply.specs.Reply.{says, refuses, refusalCode, fitPlace, twosComplement}
+use Rattle.reply.specs.Descriptions.{presence, place, isGiven, keptNumber, formatPlace, entryValues, entryAt, unlessTold, fitTold, fitDescription, showDescription, showDeclared}
 use Rattle.reply.proofs.Shown.{as-bit}
 
--- the place that is told has room
-pub told-fits : (t : Told) (p n : ℕ) → ToldFits t → t ≡ At p n → p < placesBelow
-told-fits t p n h e = subst ToldFits e h
-
-pub outcome-fits : (a : Outcome) (p n : ℕ) → OutcomeFits a → a ≡ Faulty n p → p < placesBelow
-outcome-fits a p n h e = subst OutcomeFits e h
-
-pub description-refused : (d : Description) (p n k : ℕ) → d .told ≡ At p n → k ≡ refusalCode (placed n p) → showDescription d ≡ refuses k
-unfolding showDescription unlessTold
+pub description-refused : (d : Description) (p n k : ℕ) → d .told ≡ At p n → k ≡ refusalCode (placed n (fitPlace p)) → showDescription (fitDescription d) ≡ refuses k
+unfolding showDescription unlessTold fitTold
 description-refused d p n k h e = rw (h, e)
 
-pub description-shown : (d : Description) (v x y z w : ℕ) → d .told ≡ Nothing → v ≡ twosComplement (stands (2 ^ 63) (d .version)) → x ≡ presence (d .root) → y ≡ place (d .root) → z ≡ presence (d .parent) → w ≡ place (d .parent) → showDescription d ≡ says (v ∷ x ∷ y ∷ z ∷ w ∷ d .properties .n ∷ [])
-unfolding showDescription unlessTold
+pub description-shown : (d : Description) (v x y z w : ℕ) → d .told ≡ Nothing → v ≡ twosComplement (stands (2 ^ 63) (d .version)) → x ≡ presence (d .root) → y ≡ place (d .root) → z ≡ presence (d .parent) → w ≡ place (d .parent) → showDescription (fitDescription d) ≡ says (v ∷ x ∷ y ∷ z ∷ w ∷ d .properties .n ∷ [])
+unfolding showDescription unlessTold fitTold
 description-shown d v x y z w h g a b c e = rw (h, g, a, b, c, e)
 
 -- ---- a property's format
@@ -105,10 +94,10 @@ one-at s (e ∷ l) zero i x h k = absurd (omega arith)
 one-at s (e ∷ l) (suc n) zero x h k = refl
 one-at s (e ∷ l) (suc n) (suc i) x h k = one-at s l n i x (omega arith) (omega arith)
 
-pub declared-refused : (s : List ℕ) (d : Description) (i p n k : ℕ) → d .told ≡ At p n → k ≡ refusalCode (placed n p) → showDeclared s d i ≡ refuses k
-unfolding showDeclared unlessTold
+pub declared-refused : (s : List ℕ) (d : Description) (i p n k : ℕ) → d .told ≡ At p n → k ≡ refusalCode (placed n (fitPlace p)) → showDeclared s (fitDescription d) i ≡ refuses k
+unfolding showDeclared unlessTold fitTold
 declared-refused s d i p n k h e = rw (h, e)
 
-pub declared-shown : (s : List ℕ) (d : Description) (i : ℕ) → d .told ≡ Nothing → showDeclared s d i ≡ entryAt s (take (d .properties .n) (d .properties .items)) i
-unfolding showDeclared unlessTold
+pub declared-shown : (s : List ℕ) (d : Description) (i : ℕ) → d .told ≡ Nothing → showDeclared s (fitDescription d) i ≡ entryAt s (take (d .properties .n) (d .properties .items)) i
+unfolding showDeclared unlessTold fitTold
 declared-shown s d i h = rw h

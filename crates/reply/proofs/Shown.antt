@@ -4,13 +4,11 @@ use mathlib.Core.List.{List, [], _∷_}
 use mathlib.Core.Bool.{Bool, true, false}
 use Prim.Native.Nat.{ℕ, _^_}
 use mir.Val.{boolByte}
-use Rattle.answer.specs.Answer.{Answer, gives}
 use Rattle.text.specs.declared.Place.{Place}
 use Rattle.topic.specs.declared.Topic.{Topic}
 use Rattle.topic.specs.declared.Topic.the-variants as topic
 use Rattle.topic.specs.declared.Flag.{Flag}
-use Rattle.topic.specs.Form.{Form}
-use Rattle.topic.specs.Flags.{flagIn, flagOf}
+use Rattle.topic.specs.Flags.{flagIn}
 use Rattle.topic.specs.Meaning.{meaning}
 use Rattle.numbers.specs.Whole.{stands}
 use Rattle.payload.specs.Datatypes as datatypes
@@ -26,7 +24,7 @@ use Rattle.questions.specs.declared.Property.the-variants.{Is}
 use Rattle.questions.specs.declared.Version.{Version}
 use Rattle.questions.specs.declared.Version.the-variants as version
 use Rattle.verdict.proofs.Forms.{HasForm}
-use Rattle.reply.specs.Reply.{Reply, says, refuses, telling, yes, bit, twosComplement}
+use Rattle.reply.specs.Reply.{says, refuses, telling, yes, bit, twosComplement}
 use Rattle.reply.specs.Judgements.{showNamed, showFlag, flagNumber}
 use Rattle.reply.specs.Answers.{showStates, showVersion, showProperty}
 

@@ -1,9 +1,9 @@
 -- What this crate promises beyond its contracts.
-use Prim.Native.Nat.{ℕ, zero, suc, _^_, _≤_, _<_}
+use Prim.Native.Nat.{ℕ, zero, suc, _^_, _<_}
 use native.Mathlib.Omega.{arith}
 use mathlib.Core.Path.{_≡_}
 use mathlib.Core.List.{List, [], _∷_}
-use lib.ListN.{length, take}
+use lib.ListN.{take}
 use mir.Syntax.{w64}
 use mir.Val.{toZ}
 use Rattle.numbers.specs.Whole.{stands}

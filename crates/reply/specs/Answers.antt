@@ -1,5 +1,5 @@
 -- The table: what is shown of each answer of crates `table` and `questions`. A place is one of the lent memory.
-use Prim.Native.Nat.{ℕ, _^_, _<_}
+use Prim.Native.Nat.{ℕ, _^_}
 use mathlib.Core.List.{[], _∷_}
 use Rattle.answer.specs.Answer.{placed}
 use Rattle.numbers.specs.Whole.{stands}
@@ -25,7 +25,7 @@ use Rattle.questions.specs.declared.Held.{Held}
 use Rattle.questions.specs.declared.Held.the-variants as held
 use Rattle.questions.specs.declared.Time.{Time}
 use Rattle.questions.specs.declared.Time.the-variants as time
-use Rattle.reply.specs.Reply.{Reply, says, refuses, refusalCode, placesBelow, bit, twosComplement}
+use Rattle.reply.specs.Reply.{Reply, says, refuses, refusalCode, fitPlace, bit, twosComplement}
 
 -- Paper 01, "Known examples": "answer (0 taken)"
 unfoldable pub outcomeNumber : Outcome → ℕ
@@ -34,11 +34,11 @@ outcomeNumber (outcome.Refused k) = k
 -- paper 02, K1, "with the byte place"
 outcomeNumber (outcome.Faulty k place) = refusalCode (placed k place)
 
--- its place, if it tells one, has room
-abbrev pub OutcomeFits : Outcome → Type 0
-OutcomeFits outcome.Taken = Unit
-OutcomeFits (outcome.Refused k) = Unit
-OutcomeFits (outcome.Faulty k place) = place < placesBelow
+-- the outcome with its place as there is room for it
+unfoldable pub fitOutcome : Outcome → Outcome
+fitOutcome outcome.Taken = outcome.Taken
+fitOutcome (outcome.Refused k) = outcome.Refused k
+fitOutcome (outcome.Faulty k place) = outcome.Faulty k (fitPlace place)
 
 -- Paper 01, "The table", Questions, from here on: "steps on offer"
 unfoldable pub showOffer : Offer → Reply

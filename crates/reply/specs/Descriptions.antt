@@ -1,5 +1,5 @@
 -- Descriptions: what is shown of what they declare. A place is where a string's opening quote stands in the text.
-use Prim.Native.Nat.{ℕ, zero, suc, _^_, _<_}
+use Prim.Native.Nat.{ℕ, zero, suc, _^_}
 use mathlib.Core.List.{List, [], _∷_}
 use mathlib.Core.Bool.{Bool, cond}
 use lib.ListN.{length, take}
@@ -17,7 +17,7 @@ use Rattle.fields.specs.Fields.{textIn}
 use Rattle.properties.specs.Property.{textOf}
 use Rattle.properties.specs.declared.Entry.{Entry}
 use Rattle.description.specs.declared.Description.{Description}
-use Rattle.reply.specs.Reply.{Reply, says, refuses, refusalCode, placesBelow, bit, twosComplement}
+use Rattle.reply.specs.Reply.{Reply, says, refuses, refusalCode, fitPlace, bit, twosComplement}
 
 -- 1 and a field's place; 0 and 0 where it has none
 unfoldable pub presence : Field → ℕ
@@ -33,10 +33,13 @@ unfoldable pub unlessTold : Told → Reply → Reply
 unlessTold Nothing x = x
 unlessTold (At p n) x = refuses (refusalCode (placed n p))
 
--- its place has room
-abbrev pub ToldFits : Told → Type 0
-ToldFits Nothing = Unit
-ToldFits (At p n) = p < placesBelow
+-- the same with its place as there is room for it
+unfoldable pub fitTold : Told → Told
+fitTold Nothing = Nothing
+fitTold (At p n) = At (fitPlace p) n
+
+abbrev pub fitDescription : Description → Description
+fitDescription d = record { told = fitTold (d .told); version = d .version; root = d .root; parent = d .parent; properties = d .properties }
 
 -- Paper 01, "The table": "from its description: root, parent, version, properties": the version as an `int64_t`, the root, the parent, how many properties
 unfoldable pub showDescription : Description → Reply

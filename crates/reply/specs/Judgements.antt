@@ -1,6 +1,6 @@
 -- Topics, datatypes and formats: what is shown of each answer of crates `topic` and `payload`.
 use Prim.Native.Nat.{ℕ}
-use mathlib.Core.List.{List, [], _∷_}
+use mathlib.Core.List.{[], _∷_}
 use Rattle.topic.specs.declared.Topic.{Topic}
 use Rattle.topic.specs.declared.Topic.the-variants.{State, Description, Value, Set, Target, Alert, Log, Broadcast, Other}
 use Rattle.topic.specs.declared.Topic.the-variants as topic

@@ -1,5 +1,5 @@
 -- What a call of the interface hands back: a number, and values in a lent array of numbers.
-use Prim.Native.Nat.{ℕ, suc, _+_, _-_, _*_, _^_, _≤_}
+use Prim.Native.Nat.{ℕ, suc, _+_, _-_, _*_, _%_, _^_, _≤_}
 use mathlib.Core.Path.{_≡_}
 use mathlib.Core.Bool.{Bool, not, cond}
 use mathlib.Core.List.{List, [], _∷_, _++_}
@@ -34,9 +34,13 @@ telling n (p ∷ ps) = n + 256 * p
 abbrev pub refusalCode : Refusal → ℕ
 refusalCode r = telling (r .number) (r .tells)
 
--- places that there is room for: every place that a description's refusal tells is one
+-- places that there is room for: every place that a description's refusal tells is one, and so the calls of the interface tell it exactly
 abbrev pub placesBelow : ℕ
 placesBelow = 2 ^ 24
+
+-- what is told of any place at all: it modulo 2^24
+abbrev pub fitPlace : ℕ → ℕ
+fitPlace p = p % placesBelow
 
 -- the number of an answer of the definitions
 unfoldable pub refusalNumber : {A : Type 0} → Answer A → ℕ

@@ -1,7 +1,7 @@
 // The table: outcomes of calls, and answers to questions.
 ghost use mathlib.Core.Path.{_≡_};
 ghost use Rattle.reply.specs.Reply.{Replied};
-ghost use Rattle.reply.specs.Answers.{outcomeNumber, OutcomeFits, showOffer, showNumber, showId, showStates, showRelative, showVersion, showProperty, showHeld, showTime};
+ghost use Rattle.reply.specs.Answers.{outcomeNumber, fitOutcome, showOffer, showNumber, showId, showStates, showRelative, showVersion, showProperty, showHeld, showTime};
 use crate::refusal_code;
 use crate::tell;
 use crate::tell_value;
@@ -19,8 +19,7 @@ use table::Outcome;
 
 // 0 where a call is taken, else the refusal's number, and a place that it tells.
 pub fn outcome_number(a: Outcome) -> u32
-    requires { ⌜ OutcomeFits a ⌝ }
-    ensures { λ r. ⌜ r ≡ outcomeNumber a ⌝ }
+    ensures { λ r. ⌜ r ≡ outcomeNumber (fitOutcome a) ⌝ }
 {
     match a {
         Outcome::Taken => 0,

@@ -2,7 +2,7 @@
 ghost use mathlib.Core.Path.{_≡_};
 ghost use lib.ListN.{take};
 ghost use Rattle.reply.specs.Reply.{Replied, says};
-ghost use Rattle.reply.specs.Descriptions.{presence, place, isGiven, keptNumber, formatPlace, entryValues, entryAt, ToldFits, showDescription, showDeclared};
+ghost use Rattle.reply.specs.Descriptions.{presence, place, isGiven, keptNumber, formatPlace, entryValues, entryAt, fitDescription, showDescription, showDeclared};
 use crate::refusal_code;
 use crate::tell;
 use crate::twos_complement;
@@ -32,8 +32,7 @@ fn place_of(f: Field) -> u64
 }
 
 pub fn tell_description(out: &mut [u64], d: Description) -> u32
-    requires { ⌜ ToldFits (d .told) ⌝ }
-    ensures { λ r. ⌜ Replied (showDescription d) (now (out .entry)) r (now (out .exit)) ⌝ }
+    ensures { λ r. ⌜ Replied (showDescription (fitDescription d)) (now (out .entry)) r (now (out .exit)) ⌝ }
 {
     let told = d.told;
     if let Told::At(place, number) = told {
@@ -138,8 +137,7 @@ fn tell_item(out: &mut [u64], s: &[u8], l: Entries, i: usize) -> u32
 
 // The i-th property that a description of the text `s` declares, from 0.
 pub fn tell_declared(out: &mut [u64], s: &[u8], d: Description, i: usize) -> u32
-    requires { ⌜ ToldFits (d .told) ⌝ }
-    ensures { λ r. ⌜ Replied (showDeclared (now (s .entry)) d i) (now (out .entry)) r (now (out .exit)) ⌝ }
+    ensures { λ r. ⌜ Replied (showDeclared (now (s .entry)) (fitDescription d) i) (now (out .entry)) r (now (out .exit)) ⌝ }
 {
     let told = d.told;
     if let Told::At(place, k) = told {

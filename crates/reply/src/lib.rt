@@ -1,22 +1,24 @@
 // What a call of the interface hands back of each answer of the crates below: a number, and values in the lent array `out`.
-ghost use Prim.Native.Nat.{_^_, _<_};
+ghost use Prim.Native.Nat.{_^_};
 ghost use mathlib.Core.Path.{_≡_};
 ghost use mathlib.Core.List.{_∷_, []};
 ghost use Rattle.answer.specs.Answer.{placed};
 ghost use Rattle.numbers.specs.Whole.{stands};
-ghost use Rattle.reply.specs.Reply.{Replied, says, refusalCode, placesBelow, twosComplement};
+ghost use Rattle.reply.specs.Reply.{Replied, says, refusalCode, fitPlace, twosComplement};
 
 pub mod answers;
 pub mod descriptions;
 pub mod files;
 pub mod judgements;
 
+// Places that there is room for: those of 24 bits.
+const PLACES_BELOW: usize = 0x1000000;
+
 // The number of a refusal that tells a place.
 pub fn refusal_code(number: u8, place: usize) -> u32
-    requires { ⌜ place < placesBelow ⌝ }
-    ensures { λ r. ⌜ r ≡ refusalCode (placed number place) ⌝ }
+    ensures { λ r. ⌜ r ≡ refusalCode (placed number (fitPlace place)) ⌝ }
 {
-    number as u32 + 256 * (place as u32)
+    number as u32 + 256 * ((place % PLACES_BELOW) as u32)
 }
 
 // Writes the values of an answer to the front of `out`, as far as they fit.

@@ -2,7 +2,7 @@
 use Prim.Native.Nat.{ℕ, zero, suc, _≤_, _<_, zero-le, suc-le-suc}
 use native.Mathlib.Nat.{not-suc-le-zero, le-of-suc-le-suc}
 use native.Mathlib.Omega.{arith}
-use mathlib.Core.Path.{_≡_, refl, ap, _∙_}
+use mathlib.Core.Path.{_≡_, refl, ap}
 use mathlib.Core.List.{List, [], _∷_, map}
 use mathlib.Core.Bool.{Bool, true, false}
 use lib.ListN.{length, getD, set}
@@ -58,12 +58,6 @@ module _ {A : Type 0} where
   change-set zero f (x ∷ l) z = refl
   change-set (suc i) f (x ∷ l) z = ap (λ (t : List A). x ∷ t) (change-set i f l z)
 
-  pub change-end : (i : ℕ) (f : A → A) (l : List A) → length l ≤ i → changeAt i f l ≡ l
-  unfolding changeAt
-  change-end i f [] h = refl
-  change-end zero f (x ∷ l) h = absurd (not-suc-le-zero h)
-  change-end (suc i) f (x ∷ l) h = ap (λ (t : List A). x ∷ t) (change-end i f l (le-of-suc-le-suc h))
-
   pub change-length : (i : ℕ) (f : A → A) (l : List A) → length (changeAt i f l) ≡ length l
   unfolding changeAt
   change-length i f [] = refl
@@ -96,9 +90,6 @@ unfolding change firstAt changeAt
 change-rank id f [] = refl
 change-rank id f (v ∷ vs) = both (eqBytes (v .id) id) (λ e. rw (e, change, firstAt)) (λ e. rw (e, change, firstAt) (ap (λ (t : List Device). v ∷ t) (change-rank id f vs)))
 
-pub change-none : (id : List ℕ) (f : Device → Device) (ds : List Device) → rankOf id ds ≡ length ds → change id f ds ≡ ds
-change-none id f ds h = change-rank id f ds ∙ change-end (rankOf id ds) f ds (omega arith)
-
 pub remove-rank : (id : List ℕ) (ds : List Device) → remove id ds ≡ removeAt (rankOf id ds) ds
 unfolding remove firstAt removeAt
 remove-rank id [] = refl
@@ -130,6 +121,3 @@ pub changeProperty-rank : (node id : List ℕ) (f : Property → Property) (ps :
 unfolding changeProperty firstAt changeAt
 changeProperty-rank node id f [] = refl
 changeProperty-rank node id f (p ∷ ps) = both (isNamed node id p) (λ e. rw (e, changeProperty, firstAt)) (λ e. rw (e, changeProperty, firstAt) (ap (λ (t : List Property). p ∷ t) (changeProperty-rank node id f ps)))
-
-pub changeProperty-none : (node id : List ℕ) (f : Property → Property) (ps : List Property) → rankOfProperty node id ps ≡ length ps → changeProperty node id f ps ≡ ps
-changeProperty-none node id f ps h = changeProperty-rank node id f ps ∙ change-end (rankOfProperty node id ps) f ps (omega arith)

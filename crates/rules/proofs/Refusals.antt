@@ -1,9 +1,9 @@
 -- Which numbers a message and a question are refused with.
 use Prim.Native.Nat.{ℕ, zero, suc}
 use native.Mathlib.Omega.{arith}
-use mathlib.Core.Path.{_≡_, refl, sym, _∙_, subst}
+use mathlib.Core.Path.{_≡_, refl, sym, subst}
 use mathlib.Core.List.{List, [], _∷_}
-use mathlib.Core.Bool.{Bool, true, false, not, _&&_, _||_, false≢true}
+use mathlib.Core.Bool.{Bool, true, false, not, _&&_, false≢true}
 use mathlib.Core.Option.{Option, none, some}
 use lib.Dec.{leb, eqb}
 use lib.ListN.{getD}
@@ -30,7 +30,7 @@ use Rattle.rules.specs.States.{stateWorded}
 use Rattle.rules.specs.Table.{Property, Device, Table, propertiesOf}
 use Rattle.rules.specs.Find.{find, isNamed, findProperty}
 use Rattle.rules.specs.Messages as rule
-use Rattle.rules.specs.Questions.{Question, askCount, askNth, askStates, askRoot, askParent, askVersion, askFilled, askProperty, askLane, askLast, Value, taken, aNumber, at, reply}
+use Rattle.rules.specs.Questions.{Question, askCount, askNth, askStates, askRoot, askParent, askVersion, askFilled, askProperty, askLane, askLast, Value, taken, at, reply}
 use Rattle.rules.specs.Rules.{rules, outcome}
 use Rattle.rules.specs.Promises.{tellsMessage, ofMessage, tellsQuestion, ofQuestion}
 

@@ -11,7 +11,7 @@ use Rattle.topic.specs.Form as form
 use Rattle.topic.specs.Topics.{readTopic}
 use Rattle.topic.specs.Flags.{flagOf, admits}
 use Rattle.payload.specs.Payloads.{isPayload}
-use Rattle.description.specs.Description.{Described, describe}
+use Rattle.description.specs.Description.{describe}
 use Rattle.rules.specs.declared.DeviceState.{DeviceState}
 use Rattle.rules.specs.declared.LaneKind.{LaneKind}
 use Rattle.rules.specs.declared.LaneKind.the-variants.{Value, Target, Asked}

@@ -21,10 +21,6 @@ use Rattle.device.specs.Meaning.{propertyIn, declaredIn}
 use Rattle.device.specs.declared.Property.{Property}
 use Rattle.verdict.specs.Parts.{unless, valueTests, setTests, targetTests, Passes, Allows}
 
-pub flag-yes : (a b : Bool) → a ≡ true → b ≡ sameFlag a b
-unfolding sameFlag
-flag-yes a b e = rw e
-
 -- ---- value
 
 module _ (keeps retained empty valid : Bool) where
@@ -40,9 +36,6 @@ module _ (keeps retained empty valid : Bool) where
         or-true : (b : Bool) → (b || true) ≡ true
         or-true true = refl
         or-true false = refl
-
-        any : (b : Bool) (a : Answer (List table.Device)) → require (b || true) 14 a ≡ a
-        any b a = rw (or-true b)
 
     module _ (v : valid ≡ false) where
       pub value-filled : empty ≡ false → Passes (valueTests keeps retained empty valid) empty valid 14

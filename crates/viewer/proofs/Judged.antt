@@ -1,5 +1,5 @@
 -- Judgements as numbers.
-use mathlib.Core.Path.{_≡_, refl, sym, ap, _∙_}
+use mathlib.Core.Path.{_≡_, sym, ap, _∙_}
 use mathlib.Core.Bool.{Bool, true, false}
 use mathlib.Core.List.{List}
 use mathlib.Core.Option.{Option}
@@ -13,7 +13,8 @@ use Rattle.payload.specs.Formats.{keptBytes, keptFormat, givenFormat}
 use Rattle.payload.specs.Payloads.{isPayloadOf}
 use Rattle.description.specs.Description.{told, describe}
 use Rattle.description.proofs.Theorems.{told-nothing, told-at}
-use Rattle.reply.specs.Reply.{refusalNumber, refusalCode, bit}
+use Rattle.reply.specs.Reply.{refusalNumber, refusalCode, fitPlace, bit}
+use Rattle.viewer.proofs.Passing.{place-fits}
 
 pub yes-bit : (r x : Bool) → r ≡ x → r ≡ true → 1 ≡ bit x
 unfolding bit
@@ -43,6 +44,6 @@ module _ (own s : List ℕ) (t : Told) (e : t ≡ told own s) where
   unfolding refusalNumber
   taken g = sym (ap refusalNumber (told-nothing own s (sym e ∙ g)))
 
-  pub not-taken : (p k n : ℕ) → t ≡ At p k → n ≡ refusalCode (placed k p) → n ≡ refusalNumber (describe own s)
+  pub not-taken : (p k n : ℕ) → t ≡ At p k → n ≡ refusalCode (placed k (fitPlace p)) → n ≡ refusalNumber (describe own s)
   unfolding refusalNumber
-  not-taken p k n g h = h ∙ sym (ap refusalNumber (told-at own s (sym e ∙ g)))
+  not-taken p k n g h = h ∙ ap (λ (q : ℕ). refusalCode (placed k q)) (place-fits own s p k (sym g ∙ e)) ∙ sym (ap refusalNumber (told-at own s (sym e ∙ g)))

@@ -1,5 +1,5 @@
-pub mod Judged
 pub mod Passing
+pub mod Judged
 pub mod Read
 pub mod LaneNumbers
 pub mod Zero

@@ -1,8 +1,9 @@
 -- What the refusals of a call of the table pass, and the room for a place that is told.
 use Prim.Native.Nat.{ℕ, _≤_, _<_}
+use native.Mathlib.Nat.{mod-eq-of-lt}
 use native.Mathlib.Omega.{arith}
 use mathlib.Core.Path.{_≡_, refl, sym, ap, _∙_, subst}
-use mathlib.Core.List.{List, [], _∷_}
+use mathlib.Core.List.{List}
 use mathlib.Core.Bool.{Bool, true, false, false≢true}
 use lib.ListN.{length}
 use borrow.Author.Tests.{leb-true}
@@ -26,9 +27,10 @@ use Rattle.lookup.specs.Contract.{Did, Opened, isOpenable, openAnswer}
 use Rattle.table.specs.declared.Outcome.{Outcome}
 use Rattle.table.specs.declared.Outcome.the-variants.{Taken, Refused, Faulty}
 use Rattle.table.specs.Outcome.{said}
-use Rattle.reply.specs.Reply.{placesBelow}
-use Rattle.reply.specs.Answers.{OutcomeFits}
-use Rattle.reply.specs.Descriptions.{ToldFits}
+use Rattle.reply.specs.Reply.{Reply, Replied, Numbered, placesBelow, fitPlace}
+use Rattle.reply.specs.Reply as reply
+use Rattle.reply.specs.Answers.{outcomeNumber, fitOutcome}
+use Rattle.reply.specs.Descriptions.{fitTold, fitDescription}
 
 -- a call of the table is refused as a state is, or with 6
 module _ (test : Refusal → Bool) (six : test (only 6) ≡ true) (every : (domain : List ℕ) (d : ℕ) (s : State Table) (c : CallOf (rules domain d)) → Passes test (answer (rules domain d) s c)) where
@@ -45,28 +47,45 @@ unfolding openAnswer
 opened-passes test true p = refl
 opened-passes test false p = p
 
--- ---- room for a place
+-- ---- a place that is told has room, and so it is told as it is
 
-short-fits : (k p : ℕ) → isShort (placed k p) ≡ true → p < placesBelow
-short-fits k p e = omega (arith, leb-true p 8192 e)
+short-fits : (p : ℕ) → p ≤ 8192 → fitPlace p ≡ p
+short-fits p h = let l : p < placesBelow = omega (arith, h) in mod-eq-of-lt l
 
-pub did-fits : {c : Call Message Question} {m m′ : List ℕ} (a : Outcome) → Did c m m′ (said a) → OutcomeFits a
-did-fits Taken h = tt
-did-fits (Refused k) h = tt
-did-fits (Faulty k p) h = short-fits k p (did-passes isShort refl state-short (refused (placed k p)) h)
+faulty-fits : (k p : ℕ) → isShort (placed k p) ≡ true → fitOutcome (Faulty k p) ≡ Faulty k p
+unfolding fitOutcome
+faulty-fits k p e = ap (Faulty k) (short-fits p (leb-true p 8192 e))
 
-pub opening-fits : {m domain : List ℕ} {d j : ℕ} {m′ : List ℕ} (a : Outcome) → Opened m domain d j m′ (said a) → OutcomeFits a
-opening-fits Taken h = tt
-opening-fits (Refused k) h = tt
-opening-fits {m} {domain} {d} {j} (Faulty k p) h = short-fits k p (passed isShort (opened-passes isShort (isOpenable domain d j (length m)) refl) (sym (h .answered)))
+did-fits : {c : Call Message Question} {m m′ : List ℕ} (a : Outcome) → Did c m m′ (said a) → fitOutcome a ≡ a
+unfolding fitOutcome
+did-fits Taken h = refl
+did-fits (Refused k) h = refl
+did-fits (Faulty k p) h = faulty-fits k p (did-passes isShort refl state-short (refused (placed k p)) h)
 
-pub told-fits : (own s : List ℕ) (t : Told) → t ≡ description.told own s → ToldFits t
-told-fits own s Nothing e = tt
-told-fits own s (At p n) e = omega (arith, told-short own s (sym e))
+opening-fits : {m domain : List ℕ} {d j : ℕ} {m′ : List ℕ} (a : Outcome) → Opened m domain d j m′ (said a) → fitOutcome a ≡ a
+unfolding fitOutcome
+opening-fits Taken h = refl
+opening-fits (Refused k) h = refl
+opening-fits {m} {domain} {d} {j} (Faulty k p) h = faulty-fits k p (passed isShort (opened-passes isShort (isOpenable domain d j (length m)) refl) (sym (h .answered)))
 
-pub reads-fits : (own s : List ℕ) (d : Description) → meaning s d ≡ description.describe own s → ToldFits (d .told)
-reads-fits own s d e = told-fits own s (d .told) (told-is own s d e)
+pub did-number : {c : Call Message Question} {m m′ : List ℕ} (a : Outcome) (r : ℕ) → Did c m m′ (said a) → r ≡ outcomeNumber (fitOutcome a) → Numbered (λ x. Did c m m′ (said x)) outcomeNumber r
+did-number a r h e = record { answer = a; promise = h; says = e ∙ ap outcomeNumber (did-fits a h) }
 
--- by what is told
-pub place-fits : (own s : List ℕ) (t : Told) (p n : ℕ) → t ≡ description.told own s → t ≡ At p n → p < placesBelow
-place-fits own s t p n e f = told-fits own s (At p n) (sym f ∙ e)
+pub opening-number : {m domain : List ℕ} {d j : ℕ} {m′ : List ℕ} (a : Outcome) (r : ℕ) → Opened m domain d j m′ (said a) → r ≡ outcomeNumber (fitOutcome a) → Numbered (λ x. Opened m domain d j m′ (said x)) outcomeNumber r
+opening-number a r h e = record { answer = a; promise = h; says = e ∙ ap outcomeNumber (opening-fits a h) }
+
+-- of a description
+
+pub place-fits : (own s : List ℕ) (p n : ℕ) → At p n ≡ description.told own s → fitPlace p ≡ p
+place-fits own s p n e = short-fits p (told-short own s (sym e))
+
+told-fits : (own s : List ℕ) (t : Told) → t ≡ description.told own s → fitTold t ≡ t
+unfolding fitTold
+told-fits own s Nothing e = refl
+told-fits own s (At p n) e = ap (λ (q : ℕ). At q n) (place-fits own s p n e)
+
+reads-fits : (own s : List ℕ) (d : Description) → meaning s d ≡ description.describe own s → fitDescription d ≡ d
+reads-fits own s d e = ap (λ (t : Told). record { told = t; version = d .version; root = d .root; parent = d .parent; properties = d .properties }) (told-fits own s (d .told) (told-is own s d e))
+
+pub reads-reply : (own s : List ℕ) (d : Description) (shown : Description → Reply) (out : List ℕ) (r : ℕ) (out′ : List ℕ) → meaning s d ≡ description.describe own s → Replied (shown (fitDescription d)) out r out′ → reply.Told (λ x. meaning s x ≡ description.describe own s) shown out r out′
+reads-reply own s d shown out r out′ h x = record { answer = d; promise = h; reply = subst (λ (y : Description). Replied (shown y) out r out′) (reads-fits own s d h) x }

@@ -1,6 +1,6 @@
 -- Lanes by number.
 use Prim.Native.Nat.{ℕ}
-use mathlib.Core.List.{List, [], _∷_}
+use mathlib.Core.List.{[], _∷_}
 use lib.ListN.{getD}
 use Rattle.rules.specs.declared.LaneKind.{LaneKind}
 use Rattle.rules.specs.declared.LaneKind.the-variants.{Value, Target, Asked}

@@ -3,8 +3,6 @@ use Rattle.reply.specs.Reply.{telling}
 use borrow.Author.Needs.{needs}
 use Rattle.reply.proofs.refusal_code.Statement.{statement}
 use Rattle.reply.proofs.refusal_code.Tie as tie
-use Rattle.reply.proofs.refusal_code.Reads as reads
-use Rattle.reply.proofs.refusal_code.Lts as lts
 
 cast-result : tie.Need-cast-result
 cast-result c = search needs

@@ -4,9 +4,6 @@ use Rattle.rules.proofs.Choices.{told, pick-yes, pick-no}
 use borrow.Author.Needs.{needs}
 use Rattle.rules.proofs.read_state.Statement.{statement}
 use Rattle.rules.proofs.read_state.Tie as tie
-use Rattle.rules.proofs.read_state.Reads as reads
-use Rattle.rules.proofs.read_state.Lts as lts
-use Rattle.text.proofs.same.Reads as same-reads
 
 slice-aggregate-same : tie.Need-slice-aggregate-same
 slice-aggregate-same c = search needs

@@ -1,11 +1,8 @@
 use mathlib.Core.Path.{sym, ap}
 use Rattle.rules.specs.States.{stateAt}
 use Rattle.rules.proofs.Choices.{other-state}
-use borrow.Author.Needs.{needs}
 use Rattle.rules.proofs.state_at.Statement.{statement}
 use Rattle.rules.proofs.state_at.Tie as tie
-use Rattle.rules.proofs.state_at.Reads as reads
-use Rattle.rules.proofs.state_at.Lts as lts
 
 returns : tie.Need-returns
 unfolding stateAt

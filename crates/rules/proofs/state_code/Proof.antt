@@ -3,8 +3,6 @@ use Rattle.rules.specs.States.{codeOf}
 use borrow.Author.Needs.{needs}
 use Rattle.rules.proofs.state_code.Statement.{statement}
 use Rattle.rules.proofs.state_code.Tie as tie
-use Rattle.rules.proofs.state_code.Reads as reads
-use Rattle.rules.proofs.state_code.Lts as lts
 
 enum-told : tie.Need-enum-told
 enum-told c = search needs

@@ -2,11 +2,6 @@ use Rattle.words.proofs.Wording.{adds-place}
 use borrow.Author.Needs.{needs}
 use Rattle.words.proofs.refused_at.Statement.{statement}
 use Rattle.words.proofs.refused_at.Tie as tie
-use Rattle.words.proofs.refused_at.Reads as reads
-use Rattle.words.proofs.refused_at.Lts as lts
-use Rattle.lines.proofs.number.write.Reads as write-reads
-use Rattle.lines.proofs.out.put.Reads as put-reads
-use Rattle.words.proofs.refused.Reads as refused-reads
 
 refused-requires : tie.Need-refused-requires
 refused-requires c κs = tt

@@ -1,5 +1,4 @@
 use mathlib.Core.Path.{sym, _∙_}
-use native.Mathlib.Omega.{arith}
 use borrow.Author.Tests.{not-true, not-false}
 use Rattle.lines.proofs.Decoding.{decode-none, decode-empty, decode-odd, decode-fits, decode-full, decode-all}
 use borrow.Author.Needs.{needs}

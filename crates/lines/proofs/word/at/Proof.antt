@@ -1,7 +1,6 @@
 use Rattle.text.proofs.Split.{is-part}
 use mathlib.Core.Path.{sym, _∙_}
-use Prim.Native.Nat.{_-_, _+_}
-use lib.ListN.{length}
+use Prim.Native.Nat.{_-_}
 use native.Mathlib.Omega.{arith}
 use Rattle.lines.proofs.Parting.{Left, left-start, left-none, left-here, left-next}
 use borrow.Author.Needs.{needs}

@@ -1,12 +1,9 @@
 use mathlib.Core.Path.{sym, ap, _∙_}
-use Rattle.reply.specs.Answers.{outcomeNumber}
-use Rattle.reply.proofs.Declared.{outcome-fits}
+use Rattle.table.specs.declared.Outcome.{Outcome}
+use Rattle.reply.specs.Answers.{outcomeNumber, fitOutcome}
 use borrow.Author.Needs.{needs}
 use Rattle.reply.proofs.answers.outcome_number.Statement.{statement}
 use Rattle.reply.proofs.answers.outcome_number.Tie as tie
-use Rattle.reply.proofs.answers.outcome_number.Reads as reads
-use Rattle.reply.proofs.answers.outcome_number.Lts as lts
-use Rattle.reply.proofs.refusal_code.Reads as refusal-code-reads
 
 enum-told : tie.Need-enum-told
 enum-told c = search needs
@@ -21,19 +18,19 @@ enum-known-a-2 : tie.Need-enum-known-a-2
 enum-known-a-2 c = search needs
 
 refusal-code-requires : tie.Need-refusal-code-requires
-refusal-code-requires c κs = outcome-fits _ _ _ (c .before .before .before .pre) (c .before .a2 .given .1)
+refusal-code-requires c κs = search needs
 
 returns : tie.Need-returns
-unfolding outcomeNumber
-returns c = sym (ap outcomeNumber (c .enum-told .given .1))
+unfolding outcomeNumber fitOutcome
+returns c = sym (ap (λ (a : Outcome). outcomeNumber (fitOutcome a)) (c .enum-told .given .1))
 
 returns-2 : tie.Need-returns-2
-unfolding outcomeNumber
-returns-2 c = sym (ap outcomeNumber (c .before .a .given .1))
+unfolding outcomeNumber fitOutcome
+returns-2 c = sym (ap (λ (a : Outcome). outcomeNumber (fitOutcome a)) (c .before .a .given .1))
 
 returns-3 : tie.Need-returns-3
-unfolding outcomeNumber
-returns-3 c = c .refusal-code .ensures ∙ sym (ap outcomeNumber (c .before .before .a2 .given .1))
+unfolding outcomeNumber fitOutcome
+returns-3 c = c .refusal-code .ensures ∙ sym (ap (λ (a : Outcome). outcomeNumber (fitOutcome a)) (c .before .before .a2 .given .1))
 
 pub outcome-number-spec : {M : Type 1} → statement M
 outcome-number-spec =

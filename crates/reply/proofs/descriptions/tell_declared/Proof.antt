@@ -1,18 +1,14 @@
-use Rattle.reply.proofs.Declared.{told-fits, declared-refused, declared-shown}
+use Rattle.reply.proofs.Declared.{declared-refused, declared-shown}
 use Rattle.reply.proofs.Out.{refusal, reply-as}
 use borrow.Author.Needs.{needs}
 use Rattle.reply.proofs.descriptions.tell_declared.Statement.{statement}
 use Rattle.reply.proofs.descriptions.tell_declared.Tie as tie
-use Rattle.reply.proofs.descriptions.tell_declared.Reads as reads
-use Rattle.reply.proofs.descriptions.tell_declared.Lts as lts
-use Rattle.reply.proofs.descriptions.tell_item.Reads as tell-item-reads
-use Rattle.reply.proofs.refusal_code.Reads as refusal-code-reads
 
 enum-known-told : tie.Need-enum-known-told
 enum-known-told c = search needs
 
 refusal-code-requires : tie.Need-refusal-code-requires
-refusal-code-requires c κs = told-fits _ _ _ (c .before .before .before .before .before .pre) (c .before .told .given .1)
+refusal-code-requires c κs = search needs
 
 returns : tie.Need-returns
 returns c = refusal _ _ _ (declared-refused _ _ _ _ _ _ (c .before .before .told .given .1) (c .refusal-code .ensures))

@@ -1,21 +1,14 @@
-use Rattle.reply.proofs.Declared.{told-fits, description-refused, description-shown}
+use Rattle.reply.proofs.Declared.{description-refused, description-shown}
 use Rattle.reply.proofs.Out.{refusal, reply-as}
 use borrow.Author.Needs.{needs}
 use Rattle.reply.proofs.descriptions.tell_description.Statement.{statement}
 use Rattle.reply.proofs.descriptions.tell_description.Tie as tie
-use Rattle.reply.proofs.descriptions.tell_description.Reads as reads
-use Rattle.reply.proofs.descriptions.tell_description.Lts as lts
-use Rattle.reply.proofs.descriptions.place_of.Reads as place-of-reads
-use Rattle.reply.proofs.descriptions.presence_of.Reads as presence-of-reads
-use Rattle.reply.proofs.refusal_code.Reads as refusal-code-reads
-use Rattle.reply.proofs.tell.Reads as tell-reads
-use Rattle.reply.proofs.twos_complement.Reads as twos-complement-reads
 
 enum-known-told : tie.Need-enum-known-told
 enum-known-told c = search needs
 
 refusal-code-requires : tie.Need-refusal-code-requires
-refusal-code-requires c κs = told-fits _ _ _ (c .before .before .before .before .pre) (c .before .told .given .1)
+refusal-code-requires c κs = search needs
 
 returns : tie.Need-returns
 returns c = refusal _ _ _ (description-refused _ _ _ _ (c .before .before .told .given .1) (c .refusal-code .ensures))

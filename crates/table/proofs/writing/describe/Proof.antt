@@ -3,11 +3,6 @@ use Rattle.table.proofs.Obeying.{described, described-not}
 use borrow.Author.Needs.{needs}
 use Rattle.table.proofs.writing.describe.Statement.{statement}
 use Rattle.table.proofs.writing.describe.Tie as tie
-use Rattle.table.proofs.writing.describe.Reads as reads
-use Rattle.table.proofs.writing.describe.Lts as lts
-use Rattle.description.proofs.describe.Reads as describe-reads
-use Rattle.imprint.proofs.description.Reads as description-reads
-use Rattle.table.proofs.writing.patch.Reads as patch-reads
 
 describe-requires : tie.Need-describe-requires
 describe-requires c κs = search needs

@@ -1,12 +1,7 @@
-use Rattle.viewer.proofs.Passing.{place-fits}
 use Rattle.viewer.proofs.Judged.{taken, not-taken}
 use borrow.Author.Needs.{needs}
 use Rattle.viewer.proofs.judgements.homie5_description_judge.Statement.{statement}
 use Rattle.viewer.proofs.judgements.homie5_description_judge.Tie as tie
-use Rattle.viewer.proofs.judgements.homie5_description_judge.Reads as reads
-use Rattle.viewer.proofs.judgements.homie5_description_judge.Lts as lts
-use Rattle.description.proofs.judge.Reads as judge-reads
-use Rattle.reply.proofs.refusal_code.Reads as refusal-code-reads
 
 judge-requires : tie.Need-judge-requires
 judge-requires c κs = search needs
@@ -18,7 +13,7 @@ enum-known-place : tie.Need-enum-known-place
 enum-known-place c = search needs
 
 refusal-code-requires : tie.Need-refusal-code-requires
-refusal-code-requires c κs = place-fits _ _ _ _ _ (c .before .before .before .judge .ensures) (c .before .place .given .1)
+refusal-code-requires c κs = search needs
 
 returns : tie.Need-returns
 returns c = taken _ _ _ (c .before .before .judge .ensures) (c .enum-told .given .1)

@@ -1,7 +1,6 @@
 use mathlib.Core.Path.{sym, ap}
 use Rattle.viewer.specs.Lanes.{kindAt}
 use Rattle.viewer.proofs.LaneNumbers.{other-kind}
-use borrow.Author.Needs.{needs}
 use Rattle.viewer.proofs.queries.kind_at.Statement.{statement}
 use Rattle.viewer.proofs.queries.kind_at.Tie as tie
 
