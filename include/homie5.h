@@ -42,9 +42,9 @@
 
 /* The version of this interface. */
 #define HOMIE5_VERSION_MAJOR 0
-#define HOMIE5_VERSION_MINOR 2
+#define HOMIE5_VERSION_MINOR 3
 #define HOMIE5_VERSION_PATCH 0
-#define HOMIE5_VERSION "0.2.0"
+#define HOMIE5_VERSION "0.3.0"
 
 /*
  * Stands before every declaration: the calls are visible, whatever visibility the program is compiled with. Define it
@@ -84,7 +84,8 @@ extern "C" {
  *   22: the first byte of the value of the wrong kind
  *   23: the closing brace of the object that lacks the field
  *   24: the opening quote of the name that repeats an earlier one
- *   25: the opening quote of the string or name, or the first byte of the number, that breaks a rule
+ *   25: the opening quote of the string or name, or the first byte of the number, that breaks a rule; of half a
+ *       surrogate pair in a string or name, its backslash
  */
 enum {
     HOMIE5_OK = 0,
@@ -310,7 +311,8 @@ HOMIE5_API uint32_t homie5_description_judge(const uint8_t *own, size_t own_len,
  * What a description of the device of the ID `own` declares. Values: its version, the bits of an int64_t; 1 and where
  * its root stands in the text, else 0 and 0; the same of its parent; how many properties it declares (6 numbers).
  * Refusals: those of homie5_description_judge.
- * A string stands where its opening quote is and ends before the next quote: none of those shown has a backslash.
+ * A string stands where its opening quote is in the text as sent, and may have escapes: homie5_description_string gives
+ * its bytes.
  */
 HOMIE5_API uint32_t homie5_description_read(const uint8_t *own, size_t own_len, const uint8_t *text, size_t text_len,
                                             uint64_t *out, size_t out_len);
@@ -320,10 +322,21 @@ HOMIE5_API uint32_t homie5_description_read(const uint8_t *own, size_t own_len, 
  * its own stand in the text; its datatype; what is kept of its format, HOMIE5_KEPT_..; where its format stands, if that
  * is HOMIE5_KEPT_AS_GIVEN, else 0; 1 where it is settable; 1 where it is retained (7 numbers). Refusals: those of
  * homie5_description_judge, 3.
- * The whole text is judged for each property.
+ * Strings stand as with homie5_description_read. The whole text is judged for each property.
  */
 HOMIE5_API uint32_t homie5_description_property(const uint8_t *own, size_t own_len, const uint8_t *text,
                                                 size_t text_len, size_t i, uint64_t *out, size_t out_len);
+
+/*
+ * The string of a description's text whose opening quote stands at `place`, its escapes decoded: an ID has at most 32
+ * bytes, a kept format at most 64. Values: how many bytes it has. They go to the front of `buf` where all of them fit;
+ * else `buf` stays as it was, so with `buf_len` 0 the length alone is asked for. Only the string is read: whether the
+ * text is a description is for the calls before.
+ * Refusals: 21 at 8192 where the text is longer; 22 where no JSON string begins at `place` and ends, told at `place`,
+ * or at the text's end where that comes first; 25 at the backslash of the first half of a surrogate pair.
+ */
+HOMIE5_API uint32_t homie5_description_string(const uint8_t *text, size_t text_len, size_t place, uint8_t *buf,
+                                              size_t buf_len, uint64_t *out, size_t out_len);
 
 /* The table ----------------------------------------------------------------------------------------------------- */
 

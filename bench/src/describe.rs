@@ -3,7 +3,7 @@
 //! IDs, numbers and formats are used here, and it says where a text is no JSON.
 
 use reference::description::{self, Description, Property, DESCRIPTION_LIMIT, PROPERTY_LIMIT};
-use reference::json::{self, Member, Object, Value};
+use reference::json::{self, Member, Object, Text, Value};
 use reference::numbers::integer;
 use reference::payload::{is_format, Datatype};
 use reference::refusal::*;
@@ -57,15 +57,33 @@ impl Walk<'_> {
     fn fields<'v>(&mut self, value: &'v Value, known: &[&str]) -> Option<&'v Object> {
         let object = self.of_kind(value, Value::object)?;
         for (number, Member { place, name, .. }) in object.members.iter().enumerate() {
-            if name.contains(&b'\\') {
-                self.note(OTHER_RULE, *place);
-            }
+            let Some(name) = self.whole(name) else {
+                continue;
+            };
             let is_known = known.iter().any(|field| field.as_bytes() == name);
-            if is_known && object.members[..number].iter().any(|other| other.name == *name) {
+            if is_known && object.members[..number].iter().any(|other| other.is_named(name)) {
                 self.note(REPEATED, *place);
             }
         }
         Some(object)
+    }
+
+    /// What a string or a name says, or a fault where half a pair stands in it.
+    fn whole<'v>(&mut self, text: &'v Text) -> Option<&'v [u8]> {
+        if let Err(half) = text {
+            self.note(OTHER_RULE, *half);
+        }
+        text.as_deref().ok()
+    }
+
+    /// A string that keeps a rule, or a fault.
+    fn ruled<'v>(&mut self, value: &'v Value, good: impl Fn(&[u8]) -> bool) -> Option<&'v [u8]> {
+        let text = self.of_kind(value, Value::text)?;
+        let said = self.whole(text)?;
+        if !good(said) {
+            self.note(OTHER_RULE, value.place);
+        }
+        Some(said)
     }
 
     /// Walks the members of a field whose names are IDs.
@@ -75,10 +93,11 @@ impl Walk<'_> {
         };
         let members = self.of_kind(value, Value::object).map_or(&[][..], |object| &object.members);
         for (number, member) in members.iter().enumerate() {
-            if !is_id(&member.name) {
+            let name = self.whole(&member.name);
+            if name.is_some_and(|name| !is_id(name)) {
                 self.note(OTHER_RULE, member.place);
             }
-            if members[..number].iter().any(|other| other.name == member.name) {
+            if name.is_some_and(|name| members[..number].iter().any(|other| other.is_named(name))) {
                 self.note(REPEATED, member.place);
             } else {
                 each(self, member);
@@ -91,10 +110,14 @@ impl Walk<'_> {
         self.required_text(device, "homie", is_homie);
         let version = self.version(device);
         self.texts(device, &["name", "type"]);
-        self.list(device, "children", is_id);
-        self.list(device, "extensions", |_| true);
+        for child in self.items(device, "children") {
+            self.ruled(child, is_id);
+        }
+        for extension in self.items(device, "extensions") {
+            self.of_kind(extension, Value::text);
+        }
         let (root, parent) = (self.relative(device, "root"), self.relative(device, "parent"));
-        if let Some(parent) = device.value(b"parent").filter(|parent| parent.text().is_some()) {
+        if let Some(parent) = device.value(b"parent").filter(|parent| parent.decoded().is_some()) {
             if device.value(b"root").is_none() {
                 self.note(OTHER_RULE, parent.place);
             }
@@ -109,11 +132,7 @@ impl Walk<'_> {
             self.note(MISSING, object.end);
             return None;
         };
-        let text = self.of_kind(value, Value::text)?;
-        if !good(text) {
-            self.note(OTHER_RULE, value.place);
-        }
-        Some(text)
+        self.ruled(value, good)
     }
 
     fn version(&mut self, device: &Object) -> Option<i64> {
@@ -134,23 +153,16 @@ impl Walk<'_> {
         }
     }
 
-    fn list(&mut self, device: &Object, field: &str, good: fn(&[u8]) -> bool) {
+    fn items<'v>(&mut self, device: &'v Object, field: &str) -> &'v [Value] {
         let items = device.value(field.as_bytes()).and_then(|value| self.of_kind(value, Value::array));
-        for item in items.unwrap_or(&[]) {
-            if self.of_kind(item, Value::text).is_some_and(|text| !good(text)) {
-                self.note(OTHER_RULE, item.place);
-            }
-        }
+        items.unwrap_or(&[])
     }
 
     /// An ID that is not the device's own, if the field is there.
     fn relative(&mut self, device: &Object, field: &str) -> Option<Vec<u8>> {
         let value = device.value(field.as_bytes())?;
-        let id = self.of_kind(value, Value::text)?;
-        if !is_id(id) || id == self.own {
-            self.note(OTHER_RULE, value.place);
-        }
-        Some(id.to_vec())
+        let own = self.own;
+        self.ruled(value, |id| is_id(id) && id != own).map(<[u8]>::to_vec)
     }
 
     fn node(&mut self, node: &Member) {
@@ -160,22 +172,23 @@ impl Walk<'_> {
         self.texts(fields, &["name", "type"]);
         self.by_id(fields, "properties", |walk, property| {
             walk.names += 1;
-            if walk.names == PROPERTY_LIMIT + 1 {
+            if walk.names == PROPERTY_LIMIT + 1 && property.name.is_ok() {
                 walk.note(OTHER_RULE, property.place);
             }
-            let read = walk.property(&node.name, property);
+            let read = walk.property(node, property);
             walk.properties.extend(read);
         });
     }
 
-    fn property(&mut self, node: &[u8], member: &Member) -> Option<Property> {
+    fn property(&mut self, node: &Member, member: &Member) -> Option<Property> {
         let fields = self.fields(&member.value, &PROPERTY)?;
         let word = self.required_text(fields, "datatype", |word| Datatype::from_word(word).is_some());
         self.texts(fields, &["name", "unit", "format"]);
         let (settable, retained) = (self.flag(fields, "settable", false), self.flag(fields, "retained", true));
         let datatype = Datatype::from_word(word?)?;
         let format = self.kept_format(fields, datatype)?;
-        Some(Property { node: node.to_vec(), id: member.name.clone(), datatype, format, settable, retained })
+        let (node, id) = (node.name.clone().ok()?, member.name.clone().ok()?);
+        Some(Property { node, id, datatype, format, settable, retained })
     }
 
     fn flag(&mut self, property: &Object, field: &str, missing: bool) -> bool {
@@ -190,13 +203,7 @@ impl Walk<'_> {
         }
         match given.filter(|_| datatype.keeps_format()) {
             None => datatype.missing_format().map(<[u8]>::to_vec),
-            Some(value) => {
-                let format = value.text()?;
-                if format.contains(&b'\\') || !is_format(datatype, format) {
-                    self.note(OTHER_RULE, value.place);
-                }
-                Some(format.to_vec())
-            }
+            Some(value) => self.ruled(value, |format| is_format(datatype, format)).map(<[u8]>::to_vec),
         }
     }
 }

@@ -120,6 +120,11 @@ pub fn description_property(own: &[u8], text: &[u8], i: usize, out: &mut Values)
     unsafe { sys::homie5_description_property(own.as_ptr(), own.len(), text.as_ptr(), text.len(), i, at, len) }
 }
 
+pub fn description_string(text: &[u8], place: usize, buf: &mut [u8], out: &mut Values) -> u32 {
+    let (at, len) = (out.as_mut_ptr(), out.len());
+    unsafe { sys::homie5_description_string(text.as_ptr(), text.len(), place, buf.as_mut_ptr(), buf.len(), at, len) }
+}
+
 pub fn device_count(mem: &[u8], out: &mut Values) -> u32 {
     unsafe { sys::homie5_device_count(mem.as_ptr(), mem.len(), out.as_mut_ptr(), out.len()) }
 }

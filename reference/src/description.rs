@@ -11,6 +11,7 @@ pub const DESCRIPTION_LIMIT: usize = 8192;
 /// The most properties of a device.
 pub const PROPERTY_LIMIT: usize = 24;
 
+/// What a description declares, all strings decoded.
 #[derive(Clone, Debug, PartialEq, Eq)]
 pub struct Description {
     pub version: i64,
@@ -43,7 +44,7 @@ pub fn read(own: &[u8], text: &[u8]) -> Result<Description, Refusal> {
 fn declared(text: &[u8]) -> Option<Description> {
     let value = json::read(text)?;
     let device = value.object()?;
-    let id = |name: &[u8]| device.value(name).and_then(Value::text).map(<[u8]>::to_vec);
+    let id = |name: &[u8]| device.value(name).and_then(Value::decoded).map(<[u8]>::to_vec);
     Some(Description {
         version: integer(device.value(b"version")?.number()?)?,
         root: id(b"root"),
@@ -57,7 +58,7 @@ fn properties(device: &Object) -> Option<Vec<Property>> {
     let mut all = Vec::new();
     for node in members(device, b"nodes") {
         for property in members(node.value.object()?, b"properties") {
-            all.push(declared_property(&node.name, property)?);
+            all.push(declared_property(node, property)?);
         }
     }
     all.sort_by(|a, b| (&a.node, &a.id).cmp(&(&b.node, &b.id)));
@@ -69,13 +70,13 @@ fn members<'a>(object: &'a Object, name: &[u8]) -> &'a [Member] {
     object.value(name).and_then(Value::object).map_or(&[], |object| &object.members)
 }
 
-fn declared_property(node: &[u8], member: &Member) -> Option<Property> {
+fn declared_property(node: &Member, member: &Member) -> Option<Property> {
     let fields = member.value.object()?;
     let flag = |name: &[u8]| fields.value(name).and_then(Value::flag);
-    let datatype = Datatype::from_word(fields.value(b"datatype")?.text()?)?;
+    let datatype = Datatype::from_word(fields.value(b"datatype")?.decoded()?)?;
     Some(Property {
-        node: node.to_vec(),
-        id: member.name.clone(),
+        node: node.name.clone().ok()?,
+        id: member.name.clone().ok()?,
         datatype,
         format: kept_format(fields, datatype)?,
         settable: flag(b"settable").unwrap_or(false),
@@ -84,9 +85,10 @@ fn declared_property(node: &[u8], member: &Member) -> Option<Property> {
 }
 
 fn kept_format(property: &Object, datatype: Datatype) -> Option<Vec<u8>> {
-    let given = property.value(b"format").and_then(Value::text);
-    let kept = given.filter(|_| datatype.keeps_format()).or(datatype.missing_format());
-    kept.map(<[u8]>::to_vec)
+    match property.value(b"format").filter(|_| datatype.keeps_format()) {
+        Some(given) => given.decoded().map(<[u8]>::to_vec),
+        None => datatype.missing_format().map(<[u8]>::to_vec),
+    }
 }
 
 #[cfg(test)]
@@ -117,7 +119,7 @@ mod tests {
 
     #[test]
     fn homie_and_version() {
-        for bad in ["5", "5.", "5.01", "5.00", "5.1234", "4.0", "5.0.0", " 5.0", "5.a", r"5.\u0030"] {
+        for bad in ["5", "5.", "5.01", "5.00", "5.1234", "4.0", "5.0.0", " 5.0", "5.a", r"5.\u0061"] {
             assert!(!valid(&format!(r#"{{"homie":"{bad}","version":1}}"#)), "{bad}");
         }
         for (text, good) in [
@@ -151,7 +153,7 @@ mod tests {
             r#""type":[]"#,
             r#""children":"a""#,
             r#""children":["A"]"#,
-            r#""children":["\u0061"]"#,
+            r#""children":["\u0041"]"#,
             r#""children":[null]"#,
             r#""extensions":[1]"#,
             r#""nodes":[]"#,
@@ -163,10 +165,10 @@ mod tests {
             r#""root":"lamp""#,
             r#""root":"r","parent":"lamp""#,
             r#""root":"R""#,
-            r#""root":"\u0072""#,
+            r#""root":"\u006camp""#,
             r#""parent":"p""#,
             r#""root":"r","root":"r""#,
-            r#""x\u0041":1"#,
+            r#""x\ud800":1"#,
         ];
         for fields in bad {
             assert!(!valid(&with(fields)), "{fields}");
@@ -187,17 +189,17 @@ mod tests {
         let bad = [
             r#""x":1"#,
             r#""datatype":"text""#,
-            r#""datatype":"strin\u0067""#,
+            r#""datatype":"strin\u0047""#,
             r#""datatype":"enum""#,
             r#""datatype":"color""#,
-            r#""datatype":"enum","format":"a\u002cb""#,
+            r#""datatype":"enum","format":"a\u002ca""#,
             r#""datatype":"integer","format":"2:1""#,
             r#""datatype":"integer","format":"""#,
             r#""datatype":"string","format":null"#,
             r#""datatype":"string","settable":"true""#,
             r#""datatype":"string","retained":null"#,
             r#""datatype":"string","retained":true,"retained":true"#,
-            r#""datatype":"string","\u0079":1"#,
+            r#""datatype":"string","\udc00":1"#,
         ];
         for fields in bad {
             assert!(!valid(&with_property(fields)), "{fields}");
@@ -218,6 +220,30 @@ mod tests {
         );
         assert!(description.properties[2].settable && !description.properties[2].retained);
         assert!(!description.properties[3].settable && description.properties[3].retained);
+    }
+
+    #[test]
+    fn strings_are_declared_decoded() {
+        let text = r#"{"h\u006fmie":"5\u002e0","version":1,"root":"\u0068ub","parent":"h\u0061ll","nodes":{"\u006e":{
+            "properties":{"\u0070":{"d\u0061tatype":"en\u0075m","format":"\u00b0C\u002ca\/b,\ud83d\uDE00,\n"},
+            "q":{"datatype":"json","format":"\ud800"}}}}}"#;
+        let description = read(b"lamp", text.as_bytes()).unwrap();
+        assert_eq!(description.root.as_deref(), Some(&b"hub"[..]));
+        assert_eq!(description.parent.as_deref(), Some(&b"hall"[..]));
+        let [p, q] = &description.properties[..] else { panic!("two properties") };
+        assert_eq!((&p.node[..], &p.id[..], p.datatype), (&b"n"[..], &b"p"[..], Datatype::Enum));
+        assert_eq!(p.format, "°C,a/b,😀,\n".as_bytes());
+        assert_eq!((&q.id[..], &q.format[..]), (&b"q"[..], &b""[..]));
+    }
+
+    #[test]
+    fn properties_are_sorted_by_what_their_names_say() {
+        let text = with(
+            r#""nodes":{"\u0062":{"properties":{"b":{"datatype":"json"},"\u0061":{"datatype":"json"}}},"a":{"properties":{"c":{"datatype":"json"}}}}"#,
+        );
+        let description = read(b"lamp", text.as_bytes()).unwrap();
+        let names: Vec<(&[u8], &[u8])> = description.properties.iter().map(|p| (&p.node[..], &p.id[..])).collect();
+        assert_eq!(names, [(&b"a"[..], &b"c"[..]), (b"b", b"a"), (b"b", b"b")]);
     }
 
     fn with_properties(count: usize) -> String {

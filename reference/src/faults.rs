@@ -3,7 +3,7 @@
 
 use crate::description::{DESCRIPTION_LIMIT, PROPERTY_LIMIT};
 use crate::grammar;
-use crate::json::{self, Member, Object, Value, NESTING};
+use crate::json::{self, Member, Object, Text, Value, NESTING};
 use crate::numbers::integer;
 use crate::payload::{is_format, Datatype};
 use crate::refusal::{Refusal, MISSING, NOT_JSON, OTHER_RULE, REPEATED, WRONG_KIND};
@@ -109,9 +109,11 @@ fn first_values(object: &Object) -> Vec<&Value> {
     object.members.iter().filter(|member| !is_repeat(object, member)).map(|member| &member.value).collect()
 }
 
-/// Whether an earlier member has the same name.
+/// Whether an earlier member has the same name. A name with half a pair is no
+/// repeat.
 fn is_repeat(object: &Object, member: &Member) -> bool {
-    object.member(&member.name).is_some_and(|first| first.place < member.place)
+    let first = member.name.as_ref().ok().and_then(|name| object.member(name));
+    first.is_some_and(|first| first.place < member.place)
 }
 
 /// The objects that the rules are about. What stands under a repeated name or
@@ -164,7 +166,14 @@ impl<'a> Document<'a> {
             rule(MISSING, "format missing", self.missing_formats()),
             rule(REPEATED, "field repeated", self.repeated_fields()),
             rule(REPEATED, "ID repeated", self.repeated_ids()),
-            rule(OTHER_RULE, "name with a backslash", self.names_with_backslash()),
+            rule(OTHER_RULE, "half a pair in a field name", self.halves_in_names()),
+            rule(OTHER_RULE, "half a pair in an ID", self.halves_in_ids()),
+            rule(OTHER_RULE, "half a pair in a child", self.halves_in_children()),
+            rule(OTHER_RULE, "half a pair in homie", half_in(self.device, "homie")),
+            rule(OTHER_RULE, "half a pair in root", half_in(self.device, "root")),
+            rule(OTHER_RULE, "half a pair in parent", half_in(self.device, "parent")),
+            rule(OTHER_RULE, "half a pair in a datatype", self.halves_in_datatypes()),
+            rule(OTHER_RULE, "half a pair in a format", self.halves_in_formats()),
             rule(OTHER_RULE, "homie", self.bad_homie()),
             rule(OTHER_RULE, "version", self.bad_version()),
             rule(OTHER_RULE, "ID of a node or property", self.bad_ids()),
@@ -242,7 +251,7 @@ impl Document<'_> {
     fn repeated_fields(&self) -> Vec<usize> {
         let mut names = Vec::new();
         for (object, fields) in self.objects() {
-            let known = |member: &&Member| fields.iter().any(|(name, _)| name.as_bytes() == member.name);
+            let known = |member: &&Member| fields.iter().any(|(name, _)| member.is_named(name.as_bytes()));
             names.extend(object.members.iter().filter(known).filter(|member| is_repeat(object, member)));
         }
         name_places(names)
@@ -257,14 +266,47 @@ impl Document<'_> {
     }
 }
 
+// Half a surrogate pair, at its backslash; the first in each string. No rule
+// below is asked of such a string: none is told at its opening quote.
+
+impl Document<'_> {
+    fn halves_in_names(&self) -> Vec<usize> {
+        let members = self.objects().into_iter().flat_map(|(object, _)| &object.members);
+        halves(members.map(|member| &member.name))
+    }
+
+    fn halves_in_ids(&self) -> Vec<usize> {
+        let members = self.lists().into_iter().flat_map(|list| &list.members);
+        halves(members.map(|member| &member.name))
+    }
+
+    fn halves_in_children(&self) -> Vec<usize> {
+        halves(self.items("children").iter().filter_map(Value::text))
+    }
+
+    fn halves_in_datatypes(&self) -> Vec<usize> {
+        self.properties.iter().filter_map(|property| half_in(property, "datatype")).collect()
+    }
+
+    /// Kept formats alone.
+    fn halves_in_formats(&self) -> Vec<usize> {
+        let kept = self.properties.iter().filter(|property| keeps_format(property).is_some());
+        kept.filter_map(|property| half_in(property, "format")).collect()
+    }
+}
+
+fn halves<'a>(texts: impl IntoIterator<Item = &'a Text>) -> Vec<usize> {
+    texts.into_iter().filter_map(|text| text.as_ref().err().copied()).collect()
+}
+
+/// The first half in a field's string.
+fn half_in(object: &Object, name: &str) -> Option<usize> {
+    object.value(name.as_bytes())?.text()?.as_ref().err().copied()
+}
+
 // Other rules, at the string, number or name
 
 impl Document<'_> {
-    fn names_with_backslash(&self) -> Vec<usize> {
-        let members = self.objects().into_iter().flat_map(|(object, _)| &object.members);
-        name_places(members.filter(|member| member.name.contains(&b'\\')))
-    }
-
     fn bad_homie(&self) -> Option<usize> {
         bad_text(self.device, "homie", is_homie)
     }
@@ -276,11 +318,11 @@ impl Document<'_> {
 
     fn bad_ids(&self) -> Vec<usize> {
         let members = self.lists().into_iter().flat_map(|list| &list.members);
-        name_places(members.filter(|member| !is_id(&member.name)))
+        name_places(members.filter(|member| member.name.as_ref().is_ok_and(|id| !is_id(id))))
     }
 
     fn bad_children(&self) -> Vec<usize> {
-        let bad = |item: &&Value| item.text().is_some_and(|id| !is_id(id));
+        let bad = |item: &&Value| item.decoded().is_some_and(|id| !is_id(id));
         places(self.items("children").iter().filter(bad))
     }
 
@@ -298,11 +340,11 @@ impl Document<'_> {
         self.properties.iter().filter_map(bad).collect()
     }
 
-    /// Kept formats alone. One with a backslash is bad.
+    /// Kept formats alone.
     fn bad_formats(&self) -> Vec<usize> {
         let bad = |property: &&Object| {
-            let datatype = datatype(property).filter(|datatype| datatype.keeps_format())?;
-            bad_text(property, "format", |format| !format.contains(&b'\\') && is_format(datatype, format))
+            let datatype = keeps_format(property)?;
+            bad_text(property, "format", |format| is_format(datatype, format))
         };
         self.properties.iter().filter_map(bad).collect()
     }
@@ -310,19 +352,25 @@ impl Document<'_> {
     /// The name of the property after the last that is allowed.
     fn one_property_too_many(&self) -> Option<usize> {
         let mut names = self.property_lists.iter().flat_map(|list| &list.members);
-        names.nth(PROPERTY_LIMIT).map(|member| member.place)
+        names.nth(PROPERTY_LIMIT).filter(|member| member.name.is_ok()).map(|member| member.place)
     }
 }
 
-/// The place of a field's string, if it is there and not good.
+/// The place of a field's string, if it is there, has no half a pair and is not
+/// good.
 fn bad_text(object: &Object, name: &str, good: impl Fn(&[u8]) -> bool) -> Option<usize> {
     let value = object.value(name.as_bytes())?;
-    value.text().filter(|text| !good(text)).map(|_| value.place)
+    value.decoded().filter(|text| !good(text)).map(|_| value.place)
 }
 
 /// The datatype of a property, if it has a good one.
 fn datatype(property: &Object) -> Option<Datatype> {
-    property.value(b"datatype").and_then(Value::text).and_then(Datatype::from_word)
+    property.value(b"datatype").and_then(Value::decoded).and_then(Datatype::from_word)
+}
+
+/// The datatype of a property whose format is kept.
+fn keeps_format(property: &Object) -> Option<Datatype> {
+    datatype(property).filter(|datatype| datatype.keeps_format())
 }
 
 /// `5.` and 1 to 3 digits, without a leading zero unless it is `0`.

@@ -1,5 +1,7 @@
-//! JSON texts as in RFC 8259, with a limit on nesting.
+//! JSON texts as in RFC 8259, with a limit on nesting, and the strings in them.
 
+use crate::description::DESCRIPTION_LIMIT;
+use crate::refusal::{Refusal, NOT_JSON, OTHER_RULE, WRONG_KIND};
 use crate::text::is_utf8;
 
 /// The most arrays and objects that stand inside each other.
@@ -12,14 +14,17 @@ pub struct Value {
     pub kind: Kind,
 }
 
-/// Numbers and strings are kept as sent, strings without their quotation marks
-/// and with their escapes as they stand.
+/// What a string says, its escapes decoded; or, where half a surrogate pair
+/// stands in it, the place of the first one's backslash.
+pub type Text = Result<Vec<u8>, usize>;
+
+/// Numbers are kept as sent.
 #[derive(Clone, Debug, PartialEq, Eq)]
 pub enum Kind {
     Null,
     Bool(bool),
     Number(Vec<u8>),
-    Text(Vec<u8>),
+    Text(Text),
     Array(Vec<Value>),
     Object(Object),
 }
@@ -35,14 +40,14 @@ pub struct Object {
 pub struct Member {
     /// The place of the name's opening quote.
     pub place: usize,
-    pub name: Vec<u8>,
+    pub name: Text,
     pub value: Value,
 }
 
 impl Object {
     /// The first member of that name.
     pub fn member(&self, name: &[u8]) -> Option<&Member> {
-        self.members.iter().find(|member| member.name == name)
+        self.members.iter().find(|member| member.is_named(name))
     }
 
     /// The value of that member.
@@ -51,12 +56,24 @@ impl Object {
     }
 }
 
+impl Member {
+    /// A name with half a pair is none that one could ask for.
+    pub fn is_named(&self, name: &[u8]) -> bool {
+        self.name.as_deref() == Ok(name)
+    }
+}
+
 impl Value {
-    pub fn text(&self) -> Option<&[u8]> {
+    pub fn text(&self) -> Option<&Text> {
         match &self.kind {
             Kind::Text(text) => Some(text),
             _ => None,
         }
+    }
+
+    /// What a string without half a pair says.
+    pub fn decoded(&self) -> Option<&[u8]> {
+        self.text()?.as_deref().ok()
     }
 
     pub fn number(&self) -> Option<&[u8]> {
@@ -100,6 +117,50 @@ pub fn read(text: &[u8]) -> Option<Value> {
     (reader.at == text.len()).then_some(value)
 }
 
+/// The string whose opening quote stands at a place of a text, which need not
+/// be JSON nor UTF-8 elsewhere: 21 for a text that is too long, 22 at the place
+/// where no string begins there and ends, or at the text's end where the place
+/// is past it, 25 at the backslash of half a pair.
+pub fn string_at(text: &[u8], place: usize) -> Result<Vec<u8>, Refusal> {
+    if text.len() > DESCRIPTION_LIMIT {
+        return Err(NOT_JSON.at(DESCRIPTION_LIMIT));
+    }
+    let string = Reader { text, at: place }.string().ok_or(WRONG_KIND.at(place.min(text.len())))?;
+    string.map_err(|half| OTHER_RULE.at(half))
+}
+
+/// What a string is made of.
+enum Piece {
+    /// A byte as it stands, or one that a short escape means.
+    Byte(u8),
+    /// What `\u` and four digits mean, and the place of the backslash.
+    Unit(u32, usize),
+}
+
+fn decode(mut pieces: &[Piece]) -> Text {
+    use Piece::{Byte, Unit};
+    let mut bytes = Vec::new();
+    while let [first, behind @ ..] = pieces {
+        pieces = behind;
+        match (first, behind) {
+            (Byte(byte), _) => bytes.push(*byte),
+            (Unit(high @ 0xd800..=0xdbff, _), [Unit(low @ 0xdc00..=0xdfff, _), behind @ ..]) => {
+                push_character(&mut bytes, 0x10000 + (high - 0xd800) * 0x400 + (low - 0xdc00));
+                pieces = behind;
+            }
+            (Unit(0xd800..=0xdfff, place), _) => return Err(*place),
+            (Unit(code, _), _) => push_character(&mut bytes, *code),
+        }
+    }
+    Ok(bytes)
+}
+
+/// A character in UTF-8.
+fn push_character(bytes: &mut Vec<u8>, code: u32) {
+    let character = char::from_u32(code).expect("no surrogate, and at most 0x10ffff");
+    bytes.extend(character.to_string().into_bytes());
+}
+
 struct Reader<'a> {
     text: &'a [u8],
     at: usize,
@@ -108,6 +169,12 @@ struct Reader<'a> {
 impl Reader<'_> {
     fn peek(&self) -> Option<u8> {
         self.text.get(self.at).copied()
+    }
+
+    fn next(&mut self) -> Option<u8> {
+        let byte = self.peek()?;
+        self.at += 1;
+        Some(byte)
     }
 
     fn take(&mut self, wanted: u8) -> Option<()> {
@@ -176,42 +243,46 @@ impl Reader<'_> {
         }
     }
 
-    fn string(&mut self) -> Option<Vec<u8>> {
+    fn string(&mut self) -> Option<Text> {
         self.take(b'"')?;
-        let start = self.at;
+        let mut pieces = Vec::new();
         while self.peek()? != b'"' {
-            self.character()?;
+            pieces.push(self.piece()?);
         }
-        let text = self.text[start..self.at].to_vec();
         self.take(b'"')?;
-        Some(text)
+        Some(decode(&pieces))
     }
 
     /// One byte of a string, or one escape. Control characters are refused.
-    fn character(&mut self) -> Option<()> {
-        match self.peek()? {
-            b'\\' => self.escape(),
+    fn piece(&mut self) -> Option<Piece> {
+        let place = self.at;
+        match self.next()? {
+            b'\\' => self.escape(place),
             0x00..=0x1f => None,
-            _ => {
-                self.at += 1;
-                Some(())
+            byte => Some(Piece::Byte(byte)),
+        }
+    }
+
+    /// What stands behind the backslash at a place.
+    fn escape(&mut self, place: usize) -> Option<Piece> {
+        let byte = match self.next()? {
+            byte @ (b'"' | b'\\' | b'/') => byte,
+            b'b' => 8,
+            b't' => 9,
+            b'n' => 10,
+            b'f' => 12,
+            b'r' => 13,
+            b'u' => {
+                let code = (0..4).try_fold(0, |code, _| Some(code * 16 + self.hex_digit()?))?;
+                return Some(Piece::Unit(code, place));
             }
-        }
+            _ => return None,
+        };
+        Some(Piece::Byte(byte))
     }
 
-    fn escape(&mut self) -> Option<()> {
-        self.take(b'\\')?;
-        let letter = self.peek()?;
-        self.at += 1;
-        match letter {
-            b'"' | b'\\' | b'/' | b'b' | b'f' | b'n' | b'r' | b't' => Some(()),
-            b'u' => (0..4).try_for_each(|_| self.hex_digit()),
-            _ => None,
-        }
-    }
-
-    fn hex_digit(&mut self) -> Option<()> {
-        self.peek()?.is_ascii_hexdigit().then(|| self.at += 1)
+    fn hex_digit(&mut self) -> Option<u32> {
+        char::from(self.next()?).to_digit(16)
     }
 
     fn number(&mut self) -> Option<Vec<u8>> {
@@ -332,6 +403,101 @@ mod tests {
         let items = object.value(b"a").unwrap().array().unwrap();
         assert_eq!(items.iter().map(|item| item.place).collect::<Vec<usize>>(), [9, 12, 17]);
         assert_eq!(items[2].object().unwrap().end, 19);
+    }
+
+    /// What a string of these contents says.
+    fn says(contents: &str) -> Text {
+        match read(format!("\"{contents}\"").as_bytes()).unwrap().kind {
+            Kind::Text(text) => text,
+            kind => panic!("{kind:?}"),
+        }
+    }
+
+    #[test]
+    fn strings_are_decoded() {
+        let texts = [
+            ("", ""),
+            ("aé😀", "aé😀"),
+            (r#"\"\\\/\b\f\n\r\t"#, "\"\\/\u{8}\u{c}\n\r\t"),
+            (r"\u0000", "\0"),
+            (r"\u0041\u007f\u0080\u07ff", "A\u{7f}\u{80}\u{7ff}"),
+            (r"\u00b0\u00B0\u0800", "°°\u{800}"),
+            (r"\ud7ff\ue000\uffff\uFeFf", "\u{d7ff}\u{e000}\u{ffff}\u{feff}"),
+            (r"\ud83d\ude00\uD83D\uDE00", "😀😀"),
+            (r"\ud800\udc00\uDBFF\uDFFF", "\u{10000}\u{10ffff}"),
+            (r"x\u005Cu0041y", "x\\u0041y"),
+            (r"\\ud800", r"\ud800"),
+        ];
+        for (contents, said) in texts {
+            assert_eq!(says(contents), Ok(said.as_bytes().to_vec()), "{contents}");
+        }
+    }
+
+    /// Places count from the opening quote here.
+    #[test]
+    fn half_a_pair() {
+        let halves = [
+            (r"\ud800", 1),
+            (r"a\udfff", 2),
+            (r"\udc00\ud800", 1),
+            (r"\uD800\uD800\uDC00", 1),
+            (r"\ud800\udc00\udc00", 13),
+            (r"\ud83dx\ude00", 1),
+            (r"\ud83d\\ude00", 1),
+            (r"\ud83d\n\ude00", 1),
+            (r"\ud83d\u0041", 1),
+            (r"\n\u0041é\udbff", 11),
+            (r"\\\ud800", 3),
+        ];
+        for (contents, place) in halves {
+            assert_eq!(says(contents), Err(place), "{contents}");
+        }
+    }
+
+    #[test]
+    fn names_are_found_by_what_they_say() {
+        let value = read(br#"{"\ud800":1,"\u0061":2,"a":3,"\ud800":4}"#).unwrap();
+        let object = value.object().unwrap();
+        assert_eq!(object.value(b"a").map(|value| value.place), Some(21));
+        assert_eq!(object.value(b"\\u0061"), None);
+        assert_eq!(object.members[3].name, Err(30));
+        assert!(!object.members[3].is_named(b"\\ud800"));
+    }
+
+    #[test]
+    fn a_string_at_a_place() {
+        let at = |text: &str, place: usize| string_at(text.as_bytes(), place);
+        let no_string = |place: usize| Err(WRONG_KIND.at(place));
+        assert_eq!(at(r#"{"a\u00b0":1}"#, 1), Ok("a°".as_bytes().to_vec()));
+        assert_eq!(at(r#"  """#, 2), Ok(Vec::new()));
+        assert_eq!(at(r#"{"a":1}"#, 0), no_string(0));
+        assert_eq!(at(r#"{"a":1}"#, 2), no_string(2));
+        assert_eq!(at(r#"{"a":1}"#, 7), no_string(7));
+        assert_eq!(at("", 0), no_string(0));
+        assert_eq!(at(r#""""#, usize::MAX), no_string(2));
+        // From the closing quote on, and from one behind a backslash.
+        assert_eq!(at(r#"{"a":"b"}"#, 3), Ok(b":".to_vec()));
+        assert_eq!(at(r#"{"a":1}"#, 3), no_string(3));
+        assert_eq!(at(r#""a\"b""#, 3), Ok(b"b".to_vec()));
+        // What does not end, or has what no string may have.
+        for text in ["\"", "\"a", "\"a\\\"", "\"\\x\"", "\"\\u00g0\"", "\"\\u00\"", "\"\n\"", "\"\u{1f}\""] {
+            assert_eq!(at(text, 0), no_string(0), "{text}");
+        }
+        // The text around it is not looked at, nor is UTF-8.
+        assert_eq!(string_at(b"}\xff\"\xc3\x80\x7f\"\"\\", 2), Ok(b"\xc3\x80\x7f".to_vec()));
+        // Half a pair; a string that does not end has none.
+        assert_eq!(at(r#"["\\\n\ud800\ud800"]"#, 1), Err(OTHER_RULE.at(6)));
+        assert_eq!(at(r#"["\ud800"#, 1), no_string(1));
+    }
+
+    #[test]
+    fn a_text_that_is_too_long_has_no_string() {
+        let text = |length: usize| [b"\"a\"".to_vec(), vec![b' '; length - 3]].concat();
+        assert_eq!(string_at(&text(8192), 0), Ok(b"a".to_vec()));
+        assert_eq!(string_at(&text(8193), 0), Err(NOT_JSON.at(8192)));
+        assert_eq!(string_at(&text(8193), 1), Err(NOT_JSON.at(8192)));
+        let whole = [&b"\""[..], &[b'a'; 8190], b"\""].concat();
+        assert_eq!(string_at(&whole, 0).map(|said| said.len()), Ok(8190));
     }
 
     #[test]

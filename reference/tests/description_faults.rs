@@ -1,4 +1,5 @@
-//! K1: which part of a description is bad, asked through the line programs.
+//! K1 and K4: which part of a description is bad, and escapes, asked through the
+//! line programs.
 //!
 //! In the texts `@` marks the place that is told: it is taken out, and what
 //! follows it is the byte at fault.
@@ -408,14 +409,14 @@ fn the_format_of_an_enum_or_a_colour_may_not_be_missing() {
 
 #[test]
 fn homie_version_and_datatype() {
-    for bad in ["", "5", "5.", "5.00", "5.01", "5.1000", "4.0", "5.0 ", "5,0", r"5.\u0030"] {
+    for bad in ["", "5", "5.", "5.00", "5.01", "5.1000", "4.0", "5.0 ", "5,0", r"5.\u0061"] {
         refused(25, &format!(r#"{{"homie":@"{bad}","version":1}}"#));
     }
     for bad in ["1.0", "-1.0", "1e0", "1E2", "-0.0", "9223372036854775808", "-9223372036854775809", "1e-1"] {
         refused(25, &format!(r#"{{"homie":"5.0","version": @{bad}}}"#));
     }
     accepted(r#"{"homie":"5.0","version":-0}"#);
-    for bad in ["", "text", "Integer", "jso", "json ", r"jso\u006e"] {
+    for bad in ["", "text", "Integer", "jso", "json ", r"jso\u004e"] {
         refused(25, &property(&format!(r#""datatype":@"{bad}""#)));
     }
 }
@@ -423,7 +424,7 @@ fn homie_version_and_datatype() {
 #[test]
 fn bad_ids() {
     let long = "a".repeat(33);
-    for bad in ["", "A", "a_b", "$a", "a/b", "é", r"\u0061", &long] {
+    for bad in ["", "A", "a_b", "$a", "a/b", "é", r"\u0041", r"\/", r"\u0000", &long] {
         refused(25, &device(&format!(r#""nodes":{{"n":{{}},@"{bad}":{{}}}}"#)));
         refused(25, &node(&format!(r#""properties":{{@"{bad}":{{"datatype":"json"}}}}"#)));
         refused(25, &device(&format!(r#""children":["a", @"{bad}"]"#)));
@@ -495,7 +496,7 @@ fn the_format_is_judged_by_the_first_datatype_wherever_it_stands() {
 fn without_a_good_datatype_only_the_kind_of_the_format_is_judged() {
     refused(23, &property(r#""format":",,\n"@"#));
     refused(25, &property(r#""format":",,\n","datatype":@"text""#));
-    refused(25, &property(r#""format":",,\n","datatype":@"enu\u006d""#));
+    refused(25, &property(r#""format":",,\n","datatype":@"enu\u004d""#));
     refused(22, &property(r#""format":",,\n","datatype":@null"#));
     refused(22, &property(r#""format":@1"#));
     refused(22, &property(r#""format":@1,"datatype":"text""#));
@@ -540,48 +541,222 @@ fn the_25th_property_is_counted_by_name_whatever_the_values() {
     refused(22, &two_nodes(&format!("{},\"p23\":@1", properties(0..23, good)), &properties(0..1, good)));
 }
 
-// Backslashes, until K4
+// K4: escapes
 
 #[test]
-fn a_backslash_is_told_at_its_string() {
-    refused(25, r#"{"homie":@"5\u002e0","version":1}"#);
-    refused(25, &device(r#""root":@"\u0072""#));
-    refused(25, &device(r#""root":"r","parent":@"\u0070""#));
-    refused(25, &device(r#""children":[@"\/"]"#));
-    refused(25, &property(r#""datatype":@"\u006ason""#));
-    for datatype in ["integer", "float", "boolean", "enum", "color"] {
-        refused(25, &property(&format!(r#""datatype":"{datatype}","format":@"\u0061,b""#)));
+fn every_such_string_is_decoded_before_any_rule() {
+    accepted(r#"{"hom\u0069e":"5\u002E\u0030","versio\u006e":1}"#);
+    accepted(&device(r#""ro\u006ft":"\u0072","p\u0061rent":"\u0070","children":["\u0061","\u002d"]"#));
+    accepted(&device(r#""\u006eodes":{"\u006e":{"propert\u0069es":{"\u0070":{"datatyp\u0065":"\u006ason"}}}}"#));
+    accepted(&property(r#""datatype":"integer","f\u006frmat":"\u0031\u003a2:\u0031""#));
+    accepted(&property(r#""datatype":"float","format":"0\u002e5:1""#));
+    accepted(&property(r#""datatype":"boolean","format":"\u00b0\u002c\/""#));
+    accepted(&property(r#""datatype":"enum","format":"a\u002Cb\/c,\"d\\""#));
+    accepted(&property(r#""datatype":"color","format":"\u0072gb,\u0078yz""#));
+    accepted(&property(r#""datatype":"json","settabl\u0065":true,"r\u0065tained":false,"\u0078":null"#));
+}
+
+#[test]
+fn a_rule_that_is_broken_then_is_told_at_the_opening_quote() {
+    refused(25, r#"{"homie":@"5\u002c0","version":1}"#);
+    refused(25, &device(r#""root":@"\u0041""#));
+    refused(25, &device(r#""root":"r","parent":@"\u00e9""#));
+    refused(25, &device(r#""children":["\u0061",@"\/"]"#));
+    refused(25, &device(r#""nodes":{@"\u0000":{}}"#));
+    refused(25, &node(r#""properties":{@"a\u005f":{"datatype":"json"}}"#));
+    refused(25, &property(r#""datatype":@"Js\u006fn""#));
+    refused(25, &property(r#""datatype":"integer","format":@"\u0032:1""#));
+    refused(25, &property(r#""datatype":"boolean","format":@"a\u002ca""#));
+    refused(25, &property(r#""datatype":"enum","format":@"\/,\u002f""#));
+    refused(25, &property(r#""datatype":"color","format":@"rg\u0042""#));
+    refused(22, &device(r#""nam\u0065":@1"#));
+    refused(22, &property(r#""datatype":"json","un\u0069t":@null"#));
+    refused(23, r#"{"hom\u0049e":"5.0","version":1@}"#);
+    refused(23, &property(r#""datatype":"enu\u006d","form\u0041t":"a"@"#));
+}
+
+#[test]
+fn names_are_compared_by_what_they_say() {
+    refused(24, &device(r#""name":"",@"n\u0061me":"""#));
+    refused(24, &device(r#""nam\u0065":"",@"name":"""#));
+    refused(24, &device(r#""\u006eame":"",@"\u006Eame":"""#));
+    refused(24, &device(r#""nodes":{"a":{},@"\u0061":{}}"#));
+    refused(24, &node(r#""properties":{"\u002d":{"datatype":"json"},@"-":{"datatype":"json"}}"#));
+    refused(24, &property(r#""datatype":"json",@"dat\u0061type":1"#));
+    accepted(&device(r#""\u0078":1,"x":2,"\u0078":3"#));
+    refused(25, &device(r#""root":@"l\u0061mp""#));
+    refused(25, &device(r#""root":"r","parent":@"\u006c\u0061\u006d\u0070""#));
+    accepted(&device(r#""parent":"p","ro\u006ft":"r""#));
+    assert_eq!(all(&device(r#""nam\u0065":1,"name":"""#)), [(22, 39), (24, 41)]);
+    refused(25, &property(r#""form\u0061t":@"a","datatype":"integer""#));
+}
+
+#[test]
+fn lengths_count_decoded_bytes() {
+    for (id, length) in [(r"\u0061".repeat(32), 32), (r"\u0061".repeat(33), 33), ("a".repeat(31) + r"\u002d", 32)] {
+        let texts = [
+            device(&format!(r#""root":@"{id}""#)),
+            device(&format!(r#""children":[@"{id}"]"#)),
+            device(&format!(r#""nodes":{{@"{id}":{{}}}}"#)),
+            node(&format!(r#""properties":{{@"{id}":{{"datatype":"json"}}}}"#)),
+        ];
+        for text in texts {
+            if length > 32 {
+                refused(25, &text);
+            } else {
+                accepted(&text.replace('@', ""));
+            }
+        }
     }
-    refused(25, &property(r#""datatype":"enum","format":@"a\/b""#));
-    accepted(&property(r#""datatype":"string","format":"\u0061""#));
+    let text = |format: String| property(&format!(r#""datatype":"enum","format":@"{format}""#));
+    accepted(&text(r"\u0061".repeat(64)).replace('@', ""));
+    refused(25, &text(r"\u0061".repeat(65)));
+    // Of two, three and four bytes.
+    accepted(&text(r"\u00e9".repeat(32)).replace('@', ""));
+    refused(25, &text(r"\u00e9".repeat(32) + "a"));
+    accepted(&text(r"\u20ac".repeat(21) + "a").replace('@', ""));
+    refused(25, &text(r"\u20ac".repeat(21) + "ab"));
+    accepted(&text(r"\ud83d\ude00".repeat(16)).replace('@', ""));
+    refused(25, &text(r"\ud83d\ude00".repeat(16) + r"\u0000"));
+    // The text itself is measured as it stands.
+    let long = |length: usize| device(&format!(r#""root":"\u0061",{:1$}"x":1"#, "", length - 49));
+    assert_eq!((long(8192).len(), judged(long(8192).as_bytes())), (8192, "yes".to_string()));
+    assert_eq!(judged(long(8193).as_bytes()), "refused 21 8192");
+}
+
+/// Half a pair, of every kind, with `@` at the one that is told.
+const HALVES: [&str; 12] = [
+    r"@\ud800",
+    r"@\uDBFF",
+    r"@\udc00",
+    r"@\uDfFf",
+    r"@\ud83d\ud83d\ude00",
+    r"\ud83d\ude00@\ude00",
+    r"@\ude00\ud83d",
+    r"@\ud83dx\ude00",
+    r"@\ud83d\\ude00",
+    r"@\ud83d\/\ude00",
+    r"@\ud83d\u0061\ude00",
+    r"a\u0061\\ud800@\ud800b\ud800",
+];
+
+#[test]
+fn half_a_pair_is_told_at_its_backslash() {
+    for half in HALVES {
+        refused(25, &format!(r#"{{"homie":"{half}","version":1}}"#));
+        refused(25, &device(&format!(r#""root":"{half}""#)));
+        refused(25, &device(&format!(r#""root":"r","parent":"{half}""#)));
+        refused(25, &device(&format!(r#""children":["a","{half}"]"#)));
+        refused(25, &device(&format!(r#""nodes":{{"{half}":{{}}}}"#)));
+        refused(25, &node(&format!(r#""properties":{{"{half}":{{"datatype":"json"}}}}"#)));
+        refused(25, &property(&format!(r#""datatype":"{half}""#)));
+        for datatype in ["integer", "float", "boolean", "enum", "color"] {
+            refused(25, &property(&format!(r#""datatype":"{datatype}","format":"{half}""#)));
+            refused(25, &property(&format!(r#""format":"a,{half}","datatype":"{datatype}""#)));
+        }
+        refused(25, &device(&format!(r#""{half}":1"#)));
+        refused(25, &node(&format!(r#""{half}":1"#)));
+        refused(25, &property(&format!(r#""datatype":"json","{half}":1"#)));
+    }
 }
 
 #[test]
-fn a_backslash_is_told_at_its_name() {
-    refused(25, &device(r#"@"\u0078":1"#));
-    refused(25, &device(r#""x":1, @"\\":1"#));
-    refused(25, &node(r#"@"n\u0061me":"""#));
-    refused(25, &property(r#""datatype":"json",@"\/":null"#));
-    refused(25, &device(r#""nodes":{@"\u006e":{}}"#));
-    refused(25, &node(r#""properties":{@"\u0070":{"datatype":"json"}}"#));
+fn whole_pairs_and_escaped_backslashes_are_no_halves() {
+    accepted(&device(r#""\ud83d\ude00":1,"\\ud800":2,"\u005cudc00":3"#));
+    accepted(&property(r#""datatype":"enum","format":"\uD83D\uDE00,\\ud800,\\\\udc00""#));
+    refused(25, &device(r#""root":@"\ud83d\ude00""#));
+    refused(25, &device(r#""root":@"\\ud800""#));
 }
 
 #[test]
-fn such_a_name_is_compared_as_it_stands() {
-    refused(25, r#"{@"hom\u0069e":"5.0","version":1}"#);
-    assert_eq!(all(r#"{"hom\u0069e":"5.0","version":1}"#), [(25, 1), (23, 31)]);
-    assert_eq!(all(&device(r#""nam\u0065":1,"name":"""#)), [(25, 27)]);
-    assert_eq!(all(&device(r#""name":"","nam\u0065":1"#)), [(25, 37)]);
-    assert_eq!(all(&device(r#""\u0078":1,"\u0078":2"#)), [(25, 27), (25, 38)]);
-    refused(25, &device(r#""parent":@"p","ro\u006ft":"r""#));
-    refused(25, &device(r#"@"ro\u006ft":"r","parent":"p""#));
+fn half_a_pair_elsewhere_is_no_fault() {
+    accepted(&device(r#""name":"\ud800","type":"\udc00","extensions":["\ud800"],"x":"\ud800","y":{"\ud800":1}"#));
+    accepted(&node(r#""name":"\ud800","type":"\udc00","x":["\ud800"]"#));
+    accepted(&property(r#""datatype":"json","unit":"\ud800","name":"\udc00","x":{"\ud800":{"\ud800":[]}}"#));
 }
 
 #[test]
-fn names_inside_unknown_fields_may_have_a_backslash() {
+fn a_format_that_is_not_kept_is_not_decoded() {
+    for datatype in ["string", "datetime", "duration", "json"] {
+        accepted(&property(&format!(r#""datatype":"{datatype}","format":"\ud800""#)));
+    }
+    refused(23, &property(r#""format":"\ud800"@"#));
+    refused(25, &property(r#""format":"\ud800","datatype":@"text""#));
+    refused(25, &property(r#""format":"\ud800","datatype":"@\ud800""#));
+    refused(22, &property(r#""format":"\ud800","datatype":@null"#));
+}
+
+#[test]
+fn no_other_rule_is_applied_to_that_string() {
+    let only = |text: &str| {
+        let (text, place) = unmarked(text.as_bytes());
+        assert_eq!(all(&String::from_utf8(text.clone()).unwrap()), [(25, place)], "{}", String::from_utf8_lossy(&text));
+    };
+    // ID, own ID, `homie`, datatype, format.
+    only(&device(r#""root":"lamp@\ud800""#));
+    only(&device(r#""root":"r","parent":"A@\ud800""#));
+    only(&device(r#""children":["@\ud800"]"#));
+    only(&device(r#""nodes":{"@\ud800":{}}"#));
+    only(r#"{"homie":"4@\ud800","version":1}"#);
+    only(&property(r#""datatype":"enum@\ud800""#));
+    only(&property(r#""datatype":"integer","format":"2:1@\ud800""#));
+    // `parent` without `root`.
+    only(&device(r#""parent":"p@\ud800""#));
+    // Repeats, of names that stand alike.
+    assert_eq!(all(&device(r#""name":"","name\ud800":1,"name\ud800":2"#)), [(25, 42), (25, 57)]);
+    assert_eq!(all(&device(r#""nodes":{"\ud800":{},"\ud800":{}}"#)), [(25, 37), (25, 49)]);
+    // The 25th property.
+    let good = properties(0..24, r#"{"datatype":"json"}"#);
+    only(&node(&format!(r#""properties":{{{good},"q@\ud800":{{"datatype":"json"}}}}"#)));
+}
+
+#[test]
+fn a_name_with_half_a_pair_is_an_unknown_field() {
+    assert_eq!(all(r#"{"homie\ud800":1,"version":1}"#), [(25, 7), (23, 28)]);
+    assert_eq!(all(&property(r#""datatype\udc00":"x","format":"a""#)), [(25, 69), (23, 93)]);
+    refused(25, &device(r#""parent":@"p","root\ud800":"r""#));
+    refused(25, &device(r#""root@\ud800":"r","parent":"p""#));
+    refused(25, &property(r#""format":"1:2","datatype":"integer","datatype@\ud800":1"#));
+    refused(25, &property(r#""format":"2:1","datatype@\ud800":"integer""#));
+}
+
+#[test]
+fn the_field_of_a_string_with_half_a_pair_counts_as_there() {
+    assert_eq!(all(&device(r#""parent":"p","root":"\ud800""#)), [(25, 48)]);
+    assert_eq!(all(&property(r#""datatype":"\ud800""#)), [(25, 72)]);
+    assert_eq!(all(&property(r#""datatype":"enum","format":"\ud800""#)), [(25, 88)]);
+}
+
+#[test]
+fn the_value_of_a_repeated_name_is_not_decoded() {
+    assert_eq!(all(r#"{"homie":"5.0","h\u006fmie":"\ud800","version":1}"#), [(24, 15)]);
+    assert_eq!(all(&device(r#""nodes":{"n":{},"\u006e":{"\ud800":1}}"#)), [(24, 43)]);
+}
+
+#[test]
+fn names_inside_unknown_fields_are_not_looked_at() {
     accepted(&device(r#""x":{"\u0061":{"\\":[{"\/":1}]}}"#));
-    accepted(&node(r#""x":[{"\u0061":1}]"#));
+    accepted(&node(r#""x":[{"\u0061":1,"a":2}]"#));
     accepted(&property(r#""datatype":"json","x":{"datatyp\u0065":null}"#));
+}
+
+#[test]
+fn a_table_has_decoded_bytes() {
+    let text = br#"{"homie":"5.0","version":1,"root":"\u0068ub","nodes":{"\u006e":{"properties":{
+        "\u0070":{"datatype":"enum","format":"\u00b0\u002c\n\u002ca\/b"}}}}}"#;
+    let lamp = hex(b"lamp");
+    let lines = [
+        message(1, "lamp/$description", text),
+        format!("root {lamp}\n"),
+        format!("property {lamp} 0\n"),
+        message(1, "lamp/n/p", "°".as_bytes()),
+        message(1, "lamp/n/p", b"\n"),
+        message(1, "lamp/n/p", br"a\/b"),
+        message(1, "lamp/n/p", b"a/b"),
+        format!("lane {lamp} {} {} value\n", hex(b"n"), hex(b"p")),
+    ];
+    let kept = format!("n p enum {} - retained", hex("°,\n,a/b".as_bytes()));
+    assert_eq!(answers(&lines), ["taken", "hub", &kept, "taken", "taken", "refused 14", "taken", "1 612f62"]);
 }
 
 // In a table

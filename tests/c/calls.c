@@ -132,6 +132,52 @@ static void descriptions(void)
     REFUSES(HOMIE5_NO_SUCH_NUMBER, homie5_description_property(LAMP, TEXT(lamp), 1, out, out_len));
 }
 
+/* A string as it is decoded, in a buffer that it fits, in one that is a byte too short, and its length alone. */
+static void decoded(const char *text, size_t place, const char *said)
+{
+    const size_t len = strlen(said);
+    uint8_t buf[64], before[64];
+    memset(buf, 0x5a, sizeof buf);
+    memset(before, 0x5a, sizeof before);
+    ANSWERS(HOMIE5_OK, homie5_description_string(TEXT(text), place, NULL, 0, out, out_len), len);
+    if (len > 0)
+        ANSWERS(HOMIE5_OK, homie5_description_string(TEXT(text), place, buf, len - 1, out, out_len), len);
+    assert(memcmp(buf, before, sizeof buf) == 0);
+    ANSWERS(HOMIE5_OK, homie5_description_string(TEXT(text), place, buf, sizeof buf, out, out_len), len);
+    assert(memcmp(buf, said, len) == 0 && memcmp(buf + len, before, sizeof buf - len) == 0);
+}
+
+static void no_string(const char *text, size_t place, uint32_t returned)
+{
+    uint8_t buf[4] = {1, 2, 3, 4};
+    const uint8_t before[4] = {1, 2, 3, 4};
+    REFUSES(returned, homie5_description_string(TEXT(text), place, buf, sizeof buf, out, out_len));
+    assert(memcmp(buf, before, sizeof buf) == 0);
+}
+
+/* Escapes are decoded before any rule is applied, and the strings that are shown can be asked for. */
+static void strings(void)
+{
+    const char *escaped = "{\"\\u0068omie\":\"5\\u002e0\",\"version\":1,\"nodes\":{\"\\u006e\":{\"properties\":{\"p\\u002dq\":{\"datatype\":\"enum\","
+                          "\"format\":\"\\u00b0\\u002C\\ud834\\udd1e\\/\"}}}}}";
+    const char *texts = "\"\" \"\\\\ud800\" \"a\\uD834x\" \"\\t\\uDD1E\" \"\\n";
+    ANSWERS(HOMIE5_OK, homie5_description_property(LAMP, TEXT(escaped), 0, out, out_len), 46, 70, HOMIE5_DATATYPE_ENUM, HOMIE5_KEPT_AS_GIVEN, 109, 0, 1);
+    decoded(escaped, 1, "homie");
+    decoded(escaped, 46, "n");
+    decoded(escaped, 70, "p-q");
+    decoded(escaped, 109, "\xc2\xb0,\xf0\x9d\x84\x9e/");
+    decoded(lamp, 36, "light");
+    decoded(texts, 0, "");
+    decoded(texts, 3, "\\ud800");
+    no_string(texts, 13, AT(HOMIE5_RULE_BROKEN, 15));
+    no_string(texts, 24, AT(HOMIE5_RULE_BROKEN, 27));
+    no_string(texts, 2, AT(HOMIE5_WRONG_KIND, 2));
+    no_string(texts, 35, AT(HOMIE5_WRONG_KIND, 35));
+    no_string(texts, 38, AT(HOMIE5_WRONG_KIND, 38));
+    no_string(texts, SIZE_MAX, AT(HOMIE5_WRONG_KIND, 38));
+    no_string("", 1, AT(HOMIE5_WRONG_KIND, 0));
+}
+
 /* All calls on a description give the same refusal, and no values. */
 static void refused_description(const char *own, const char *text, uint32_t returned)
 {
@@ -161,11 +207,15 @@ static void refused_descriptions(void)
     refused_description("lamp", FRONT "\"parent\":\"hub\"}", AT(HOMIE5_RULE_BROKEN, 36));
     refused_description("lamp", FRONT "\"root\":\"lamp\"}", AT(HOMIE5_RULE_BROKEN, 34));
     refused_description("lamp", "{\"version\":-1.5}", AT(HOMIE5_RULE_BROKEN, 11));
+    refused_description("lamp", FRONT "\"\\u0076ersion\":null}", AT(HOMIE5_NAME_REPEATED, 27));
+    refused_description("lamp", FRONT "\"root\":\"a\\ud800\"}", AT(HOMIE5_RULE_BROKEN, 36));
     memset(long_text, ' ', sizeof long_text - 1);
     memcpy(long_text, FRONT "\"x\":0}", strlen(FRONT "\"x\":0}"));
     refused_description("lamp", long_text, AT(HOMIE5_NOT_JSON, 8192));
+    no_string(long_text, 1, AT(HOMIE5_NOT_JSON, 8192));
     long_text[8192] = '\0';
     assert(homie5_description_judge(LAMP, TEXT(long_text)) == HOMIE5_OK);
+    decoded(long_text, 1, "homie");
 }
 
 int main(void)
@@ -187,6 +237,7 @@ int main(void)
     judgements();
     marks();
     descriptions();
+    strings();
     refused_descriptions();
     fwrite(buf, 1, used, stdout);
     free(buf);

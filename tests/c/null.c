@@ -77,6 +77,10 @@ static void descriptions(run *r, empty e)
     note(r, homie5_description_read(e.read, 0, TEXT(lamp), e.out, 0));
     note(r, homie5_description_property(e.read, 0, e.read, 0, 0, e.out, 0));
     note(r, homie5_description_property(e.read, 0, TEXT(lamp), 0, e.out, 0));
+    note(r, homie5_description_string(e.read, 0, 0, e.write, 0, e.out, 0));
+    note(r, homie5_description_string(e.read, 0, 0, r->buf, BUF, e.out, 0));
+    note(r, homie5_description_string(TEXT(lamp), 1, e.write, 0, r->out, HOMIE5_VALUES));
+    note(r, homie5_description_string(TEXT(lamp), 1, r->buf, BUF, e.out, 0));
 }
 
 static void message(run *r, const char *topic, uint8_t retained, const uint8_t *payload, size_t len)

@@ -69,13 +69,13 @@ static void write_deep(char *text)
     strcat(text, "1}}}}}}}}}}}}}}}}");
 }
 
-/* A description with 24 properties, the longest names and formats. */
+/* A description with 24 properties, the longest names and formats, all with escapes. */
 static void write_wide(char *text)
 {
     char one[256];
     strcpy(text, HEAD ",\"root\":\"hub\",\"parent\":\"hub\",\"children\":[\"a\"],\"extensions\":[\"a\"],\"nodes\":{");
     for (int i = 23; i >= 0; i--) {
-        sprintf(one, "\"node-%027d\":{\"properties\":{\"property-%023d\":{\"datatype\":\"color\",\"format\":\"rgb,hsv,xyz\",\"settable\":true}}}%s", i, i,
+        sprintf(one, "\"\\u006eode-%027d\":{\"properties\":{\"\\u0070roperty-%023d\":{\"datatype\":\"colo\\u0072\",\"format\":\"rgb\\u002chsv,xyz\",\"settable\":true}}}%s", i, i,
                 i ? "," : "}}");
         strcat(text, one);
     }
@@ -170,6 +170,18 @@ static void read_descriptions(void)
 {
     for (int i = 0; i < DESCRIPTIONS; i++)
         assert(homie5_description_read(TEXT("a"), TEXT(descriptions[i]), out, HOMIE5_VALUES) == HOMIE5_OK);
+}
+
+/* A string as long as a description may be, of escapes alone but for the last bytes. */
+static void read_strings(void)
+{
+    static uint8_t said[TEXT_MOST];
+    static char escaped[TEXT_MOST + 1];
+    strcpy(escaped, "\"");
+    while (strlen(escaped) + 13 <= TEXT_MOST)
+        strcat(escaped, "\\ud834\\udd1e");
+    strcat(escaped, "\"");
+    assert(homie5_description_string(TEXT(escaped), 0, said, sizeof said, out, HOMIE5_VALUES) == HOMIE5_OK && out[0] == 4 * ((strlen(escaped) - 2) / 12));
 }
 
 static void read_properties(void)
@@ -275,6 +287,7 @@ int main(void)
                 {"description_judge, refused", judge_faulty},
                 {"description_read", read_descriptions},
                 {"description_property", read_properties},
+                {"description_string", read_strings},
                 {"open, states", states},
                 {"descriptions sent", send_descriptions},
                 {"descriptions refused", send_faulty},

@@ -4,6 +4,7 @@ use crate::data::*;
 use crate::describe;
 use crate::measure::{batches, copying, Calls, Row, Sides, Unit};
 use crate::ours;
+use reference::json::string_at;
 use reference::payload::{is_format, is_payload, Datatype};
 use reference::topic;
 use std::hint::black_box;
@@ -18,6 +19,7 @@ pub fn rows() -> Vec<Row> {
     rows.extend(FORMATS.map(|(name, datatype, format)| format_row(name, datatype, format)));
     rows.extend(PAYLOADS.map(|(name, datatype, format, payload)| payload_row(name, datatype, format, payload)));
     rows.extend(description_rows());
+    rows.extend(STRINGS.map(|(name, string)| string_row(name, string)));
     rows.extend(ITEMS.map(|(name, item)| judging_row(name, move || description_with(OWN, item))));
     rows
 }
@@ -121,6 +123,21 @@ fn description_rows() -> [Row; 5] {
         text_row("reading description, 12 properties", twelve, read),
         text_row("last of a description's 12 properties", twelve, last),
     ]
+}
+
+/// Strings of a description, the same said without escapes and with them.
+const STRINGS: [(&str, &str); 2] =
+    [("plain", r#""off,heat,cool,auto,22°C""#), ("escaped", r#""off\u002cheat\u002ccool\u002cauto\u002c22\u00b0C""#)];
+
+fn string_row(name: &str, string: &'static str) -> Row {
+    let (string, said) = (string.as_bytes(), "off,heat,cool,auto,22°C".as_bytes());
+    let ours = move || {
+        let mut buf = [0; 64];
+        ours::answers(0, |out| ours::description_string(black_box(string), 0, &mut buf, out));
+        assert_eq!(&buf[..said.len()], said);
+    };
+    let reference = move || assert_eq!(string_at(black_box(string), 0).as_deref(), Ok(said));
+    Row::new(format!("string of a description, decoded, {name}"), Unit::Call, move || same(ours, reference))
 }
 
 fn judging_row(name: &str, make: impl Fn() -> String + 'static) -> Row {

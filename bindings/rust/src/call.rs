@@ -95,6 +95,21 @@ pub fn description_judge(own: &str, text: &[u8]) -> Result<(), Refusal> {
     taken(unsafe { sys::homie5_description_judge(own.as_ptr(), own.len(), text.as_ptr(), text.len()) })
 }
 
+pub fn description_string(text: &[u8], place: usize, buf: &mut [u8]) -> Result<Values, Refusal> {
+    // SAFETY: see the head of this file.
+    ask(|out| unsafe {
+        sys::homie5_description_string(
+            text.as_ptr(),
+            text.len(),
+            place,
+            buf.as_mut_ptr(),
+            buf.len(),
+            out.as_mut_ptr(),
+            out.len(),
+        )
+    })
+}
+
 pub fn open(mem: &mut [u8], domain: &str, devices: usize, depth: usize) -> Result<(), Refusal> {
     // SAFETY: see the head of this file.
     taken(unsafe { sys::homie5_open(mem.as_mut_ptr(), mem.len(), domain.as_ptr(), domain.len(), devices, depth) })

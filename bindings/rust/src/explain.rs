@@ -95,11 +95,7 @@ fn sentence(text: &[u8], refusal: Refusal, place: usize) -> String {
         Refusal::WrongKind { .. } => "this value is not of the JSON kind that is asked for; null never is".to_string(),
         Refusal::FieldMissing { .. } => missing(text, place),
         Refusal::NameRepeated { .. } => "this name has stood in its object before".to_string(),
-        Refusal::RuleBroken { .. } => {
-            "what stands here breaks a rule: that of `homie`, `version`, `datatype` or `format`, \
-             of IDs, of `root` and `parent`, of backslashes, or of 24 properties at most"
-                .to_string()
-        }
+        Refusal::RuleBroken { .. } => broken(text, place).to_string(),
         other => other.words().to_string(),
     }
 }
@@ -114,6 +110,17 @@ fn not_json(text: &[u8], place: usize) -> &'static str {
         _ if !is_front_of_utf8(&text[..=place]) => "this is not UTF-8",
         [b'[' | b'{', ..] if open(front).len() == DEEPEST => "this bracket opens level 17, and 16 are the most",
         _ => "no JSON goes on like this",
+    }
+}
+
+/// The same of 25: its place is a backslash of half a surrogate pair, else a quote or a number.
+fn broken(text: &[u8], place: usize) -> &'static str {
+    match text.get(place) {
+        Some(b'\\') => "this escape is one half of a surrogate pair, and the other half does not stand beside it",
+        _ => {
+            "what stands here breaks a rule: that of `homie`, `version`, `datatype` or `format`, \
+             of IDs, of `root` and `parent`, or of 24 properties at most"
+        }
     }
 }
 
@@ -281,6 +288,15 @@ mod tests {
         }
         for (text, place) in [("{,", 1), ("nul]", 3), ("{} {", 3), ("\"\\x\"", 2), ("01", 1)] {
             assert_eq!(said(text.as_bytes(), place), "no JSON goes on like this");
+        }
+    }
+
+    #[test]
+    fn the_faults_that_share_25() {
+        let text = br#"{"root":"a\ud800"}"#;
+        assert!(broken(text, 10).contains("half of a surrogate pair"));
+        for place in [8, text.len()] {
+            assert!(broken(text, place).starts_with("what stands here breaks a rule"));
         }
     }
 

@@ -35,8 +35,9 @@
 //!
 //! Every call answers, or refuses with a [`Refusal`] and alters nothing; that of a description tells the byte at fault,
 //! which [`description::explain`] shows in the text. Byte strings are slices of what was lent, or of
-//! the table's own memory; IDs, which are ASCII, are text. No call panics unless the library breaks the contract of its
-//! header: places inside the bytes that they stand in, strings with a closing quote, tables that stay sound. A number
+//! the table's own memory; only the strings of a description that are sent with escapes are copied. IDs, which are
+//! ASCII, are text. No call panics unless the library breaks the contract of its
+//! header: places inside the bytes that they stand in, strings where it shows some, tables that stay sound. A number
 //! that this version does not name, say a refusal of a later library, is carried as `Unknown`.
 
 #![deny(missing_docs, unsafe_code, unsafe_op_in_unsafe_fn)]

@@ -1,6 +1,7 @@
 use crate::payload::Datatype;
 
-/// A property as its device's description declares it.
+/// A property as its device's description declares it: one that a table has, or
+/// [a description's](crate::description::Declared::property).
 ///
 /// ```
 /// use homie5::{description::Description, payload::Datatype, Property};
@@ -14,7 +15,7 @@ use crate::payload::Datatype;
 ///     settable: false,
 ///     retained: true,
 /// };
-/// assert_eq!(Description::read("lamp", text)?.property(0), Ok(property));
+/// assert_eq!(Description::read("lamp", text)?.property(0)?.property(), property);
 /// # Ok::<(), homie5::Refusal>(())
 /// ```
 #[derive(Clone, Copy, Debug, PartialEq, Eq, Hash)]

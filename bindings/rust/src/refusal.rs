@@ -108,7 +108,7 @@ impl Refusal {
     /// The byte of the description at fault, counted from 0; none of refusals that tell no place.
     ///
     /// It is that of a value or a number's first byte, of the opening quote of a string or name, of the closing brace of an
-    /// object that lacks a field. Of [`NotJson`](Refusal::NotJson) it is the length of a text that ends too early, and
+    /// object that lacks a field, of the backslash of half a surrogate pair. Of [`NotJson`](Refusal::NotJson) it is the length of a text that ends too early, and
     /// 8,192 in a text that is longer.
     pub const fn place(self) -> Option<usize> {
         match self {

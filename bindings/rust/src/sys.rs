@@ -107,6 +107,16 @@ extern "C" {
         out: *mut u64,
         out_len: usize,
     ) -> u32;
+    /// The string of a description's text at a place.
+    pub fn homie5_description_string(
+        text: *const u8,
+        text_len: usize,
+        place: usize,
+        buf: *mut u8,
+        buf_len: usize,
+        out: *mut u64,
+        out_len: usize,
+    ) -> u32;
     /// Opens a table.
     pub fn homie5_open(
         mem: *mut u8,

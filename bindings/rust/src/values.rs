@@ -64,13 +64,6 @@ impl Values {
     pub fn id<'a>(&self, at: usize, bytes: &'a [u8]) -> &'a str {
         id(self.part(at, bytes))
     }
-
-    /// The string of a JSON text whose opening quote stands here, up to the next quote.
-    pub fn string<'a>(&self, at: usize, text: &'a [u8]) -> &'a [u8] {
-        let inside = &text[self.size(at) + 1..];
-        let end = inside.iter().position(|&byte| byte == b'"');
-        &inside[..end.expect("the library shows strings that end")]
-    }
 }
 
 /// An ID as text. IDs are ASCII; of other bytes, which only memory from elsewhere shows as one, the front that is UTF-8.

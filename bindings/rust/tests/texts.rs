@@ -3,10 +3,11 @@
 mod common;
 
 use common::{declared, DESCRIPTION};
-use homie5::description::{explain, judge, Description};
+use homie5::description::{explain, judge, string, Declared, Description};
 use homie5::payload::{Datatype, Kept};
 use homie5::topic::{Flag, Topic};
-use homie5::Refusal;
+use homie5::{Property, Refusal};
+use std::borrow::Cow;
 
 #[test]
 fn every_form_of_topic() {
@@ -94,17 +95,18 @@ fn formats_that_are_not_kept_are_not_shown() {
         let nodes = format!(r#"{{"n":{{"properties":{{"p":{{{fields}}}}}}}}}"#);
         let text = format!(r#"{{"homie":"5.0","version":1,"nodes":{nodes}}}"#);
         let read = Description::read("lamp", text.as_bytes()).unwrap().property(0).unwrap();
-        assert_eq!((read.datatype, read.format), (datatype, format));
-        assert_eq!((read.node, read.id, read.settable, read.retained), ("n", "p", false, true));
+        let expected = Property { node: "n", id: "p", datatype, format, settable: false, retained: true };
+        assert_eq!(read.property(), expected);
+        assert_eq!(read.format_place.is_some(), format == b"off,on");
     }
 }
 
 #[test]
 fn descriptions_declare() {
     let read = Description::read("lamp", DESCRIPTION.as_bytes()).unwrap();
-    assert_eq!((read.version, read.root, read.parent), (i64::MIN, Some("hub"), Some("hall")));
+    assert_eq!((read.version, read.root.as_deref(), read.parent.as_deref()), (i64::MIN, Some("hub"), Some("hall")));
     let properties: Vec<_> = (0..read.properties).map(|i| read.property(i).unwrap()).collect();
-    assert_eq!(properties, declared());
+    assert_eq!(properties.iter().map(Declared::property).collect::<Vec<_>>(), declared());
     assert_eq!(read.property(3), Err(Refusal::NoSuchNumber));
     let own_root = Description::read("hub", DESCRIPTION.as_bytes());
     let place = DESCRIPTION.find("\"hub\"").unwrap();
@@ -138,6 +140,10 @@ fn refusals_of_descriptions_tell_the_place() {
         (whole(r#""parent":"hub""#), 25, r#""hub"}"#),
         (whole(r#""nodes":{"N":{}}"#), 25, r#""N":{}}}"#),
         (of_property(r#""datatype":"integer","format":"2:1""#), 25, r#""2:1"}}}}}"#),
+        (whole(r#""type":"","\u0076ersion":2"#), 24, r#""\u0076ersion":2}"#),
+        (whole(r#""nodes":{"a\u002Fb":{}}"#), 25, r#""a\u002Fb":{}}}"#),
+        (whole(r#""root":"hub\ud834""#), 25, r#"\ud834"}"#),
+        (whole(r#""nodes":{"\uDD1E":{}}"#), 25, r#"\uDD1E":{}}}"#),
     ];
     for (text, number, rest) in refused {
         let place = text.len() - rest.len();
@@ -154,4 +160,62 @@ fn a_property_that_a_description_lacks_tells_no_place() {
     let text = of_property(r#""datatype":"json""#);
     let read = Description::read("lamp", text.as_bytes()).unwrap();
     assert_eq!(read.property(1).map_err(|refusal| (refusal, refusal.place())), Err((Refusal::NoSuchNumber, None)));
+}
+
+#[test]
+fn escapes_are_decoded() {
+    let text = r#"{"\u0068omie":"5\u002e0","version":1,"root":"\u0068ub","parent":"h\u0061ll","nodes":{
+        "\u0061-\u0031":{"properties":{"\u0070":{"datatype":"\u0065num","format":"\ud834\uDD1E\u002c\/\"\\u00e9é"}}}}}"#;
+    let read = Description::read("lamp", text.as_bytes()).unwrap();
+    assert_eq!((read.root.as_deref(), read.parent.as_deref()), (Some("hub"), Some("hall")));
+    assert_eq!(read.root_place, text.find(r#""\u0068ub""#));
+    assert_eq!(read.parent_place, text.find(r#""h\u0061ll""#));
+    let property = read.property(0).unwrap();
+    assert_eq!(property.property(), Property { node: "a-1", id: "p", format: "𝄞,/\"\\u00e9é".as_bytes(), ..of_enum() });
+    assert_eq!(Some(property.node_place), text.find(r#""\u0061-"#));
+    assert_eq!(Some(property.id_place), text.find(r#""\u0070""#));
+    assert_eq!(property.format_place, text.find(r#""\ud834"#));
+}
+
+/// An enum that may not be set.
+fn of_enum() -> Property<'static> {
+    Property { node: "", id: "", datatype: Datatype::Enum, format: b"", settable: false, retained: true }
+}
+
+#[test]
+fn strings_are_copied_where_they_have_escapes() {
+    let text = br#"{"plain":"\n","":"\\u00e9","\"":""}"#;
+    for (place, said, copied) in [
+        (1, &b"plain"[..], false),
+        (9, b"\n", true),
+        (14, b"", false),
+        (17, b"\\u00e9", true),
+        (27, b"\"", true),
+        (32, b"", false),
+    ] {
+        let string = string(text, place).unwrap();
+        assert_eq!(*string, *said, "place {place}");
+        assert_eq!(matches!(string, Cow::Owned(_)), copied, "place {place}");
+    }
+}
+
+#[test]
+fn strings_that_are_refused() {
+    let refused = [
+        (&br#""\ud834""#[..], 0, Refusal::RuleBroken { place: 1 }),
+        (br#" "a\ud834\u0061""#, 1, Refusal::RuleBroken { place: 3 }),
+        (br#""\udd1e\ud834""#, 0, Refusal::RuleBroken { place: 1 }),
+        (br#""\ud834\udd1e\udd1e""#, 0, Refusal::RuleBroken { place: 13 }),
+        (b"\"a", 0, Refusal::WrongKind { place: 0 }),
+        (b"\"a", 1, Refusal::WrongKind { place: 1 }),
+        (b"\"a", 2, Refusal::WrongKind { place: 2 }),
+        (b"\"a", usize::MAX, Refusal::WrongKind { place: 2 }),
+        (&[b'"'; 8193], 0, Refusal::NotJson { place: 8192 }),
+    ];
+    for (text, place, refusal) in refused {
+        assert_eq!(string(text, place), Err(refusal), "{text:?} {place}");
+    }
+    assert_eq!(string(&[b'"'; 8192], 8190).as_deref(), Ok(&b""[..]));
+    let explanation = explain(br#"{"root":"\ud834"}"#, Refusal::RuleBroken { place: 9 }).to_string();
+    assert!(explanation.contains("one half of a surrogate pair") && explanation.ends_with("\n  |          ^"));
 }

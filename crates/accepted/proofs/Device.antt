@@ -26,7 +26,8 @@ use Rattle.json.specs.declared.Scan.the-variants.{End, Bad}
 use Rattle.json_grammar.specs.Place.{badPlace, placeUnless, badPlaces}
 use Rattle.json_grammar.proofs.Ends.{Past, value-past}
 use Rattle.faults.specs.Faults.{Fault, notJson, missing, otherRule}
-use Rattle.fields.specs.Values.{valueBytes, stringBytes, isStringAt, isNumberAt, isObject}
+use Rattle.faults.proofs.Laws.{both-none}
+use Rattle.fields.specs.Values.{valueBytes, isStringAt, isNumberAt, isObject}
 use Rattle.fields.specs.Fields as first
 use Rattle.fields.specs.Fields.{closeAt}
 use Rattle.fields.specs.Names.{knownNames}
@@ -34,10 +35,11 @@ use Rattle.fields.specs.declared.Field.{Field}
 use Rattle.fields.specs.declared.Kind.the-variants.{Text, Object, Ids, Texts}
 use Rattle.fields.specs.declared.Owner.the-variants as owner
 use Rattle.description.specs.Names.{homie, version, nodes, name, type, children, root, parent, extensions}
-use Rattle.description.specs.Description.{isHomie, isNumber, homieFaults, versionFaults, otherFaults, relativeFaults, rootFaults, parentFaults, deviceFieldFaults, deviceFaults, jsonFaults, faults}
-use Rattle.accepted.specs.Once.{Once, holds, field, isPresent, optional, required}
-use Rattle.accepted.specs.Rules.{isIdText, arrayOf, otherRules, isOther, rootRules, parentRules, deviceFieldRules, deviceRules, isEnd, rules}
-use Rattle.accepted.proofs.Same.{Same, same-none, same-some, rule, parts-hold, holds-parts, each-holds, Agree, never, alone, last, then, join, kind, kind-with}
+use Rattle.description.specs.Description.{isHomie, isNumber, homieRule, homieFaults, versionFaults, otherFaults, relativeFaults, rootFaults, parentRule, parentFaults, deviceFieldFaults, deviceFaults, jsonFaults, faults}
+use Rattle.accepted.specs.Once.{decoded, Once, holds, field, isPresent, optional, required}
+use Rattle.accepted.specs.Rules.{isText, arrayOf, otherRules, isRelative, parentRules, deviceFieldRules, deviceRules, isEnd, rules}
+use Rattle.accepted.proofs.Same.{Same, same-none, same-some, rule, none-both, parts-hold, holds-parts, each-holds, Agree, never, alone, last, then, join, kind, kind-with}
+use Rattle.accepted.proofs.Strings.{of-string, of-string-and}
 use Rattle.accepted.proofs.Once.{Alike, absent, one}
 use Rattle.accepted.proofs.Fields.{text, object, ids, texts, held, present, optional-once, required-once, single, done, none-twice, known, fields-agree}
 use Rattle.accepted.proofs.Nodes.{of-nodes}
@@ -88,10 +90,10 @@ module _ (s : List ℕ) (k : ℕ) where
 -- ---- the fields
 
 module _ (s : List ℕ) (at : ℕ) where
-  of-homie : {f : Once} {g : Field} → Alike f g → Same (homieFaults s at g) (required (λ k. isStringAt s k && isHomie (stringBytes s k)) f)
-  unfolding homieFaults required
+  of-homie : {f : Once} {g : Field} → Alike f g → Same (homieFaults s at g) (required (isText isHomie decoded s) f)
+  unfolding homieFaults homieRule required isText
   of-homie absent = same-some (missing (closeAt s at)) []
-  of-homie (one k) = kind k (isStringAt s k) (rule (isHomie (stringBytes s k)) (otherRule k))
+  of-homie (one k) = kind k (isStringAt s k) (of-string s k (λ t. rule (isHomie t) (otherRule k)))
 
   of-version : {f : Once} {g : Field} → Alike f g → Same (versionFaults s at g) (required (λ k. isNumber (integer (valueBytes s k))) f)
   unfolding versionFaults required
@@ -101,23 +103,29 @@ module _ (s : List ℕ) (at : ℕ) where
       let a = kind k (isNumberAt s k) (rule number (otherRule k)) in
       (λ e. and-both (isNumberAt s k) number (a .0 e) .1, λ e. a .1 (rw (is-number s k e, e)))
 
+both-hold : {fs gs : List Fault} {a b : Bool} → Same fs a → Same gs b → Same (fs ++ gs) (a && b)
+both-hold {fs} {gs} {a} {b} p q = (
+  λ e. let n = both-none fs gs e in rw (p .0 (n .0), q .0 (n .1)),
+  λ e. let h = and-both a b e in none-both fs gs (p .1 (h .0)) (q .1 (h .1)),
+)
+
 module _ (own s : List ℕ) where
-  of-relative : (k : ℕ) → Agree (relativeFaults own s k) (isId (stringBytes s k) ∷ not (eqBytes (stringBytes s k) own) ∷ [])
-  unfolding relativeFaults
-  of-relative k = then (rule (isId (stringBytes s k)) (otherRule k)) (last (rule (not (eqBytes (stringBytes s k) own)) (otherRule k)))
+  of-relative : (k : ℕ) (t : List ℕ) → Same (relativeFaults own k t) (isRelative own t)
+  unfolding relativeFaults isRelative
+  of-relative k t = both-hold (rule (isId t) (otherRule k)) (rule (not (eqBytes t own)) (otherRule k))
 
-  of-root : {f : Once} {g : Field} → Alike f g → Agree (rootFaults own s g) (rootRules own s f)
-  unfolding rootFaults rootRules optional isOther isIdText holds
-  of-root absent = alone same-none (true ∷ []) refl
-  of-root (one k) = kind-with k (isStringAt s k) (of-relative k)
+  of-root : {f : Once} {g : Field} → Alike f g → Same (rootFaults own s g) (optional (isText (isRelative own) decoded s) f)
+  unfolding rootFaults optional isText
+  of-root absent = same-none
+  of-root (one k) = kind k (isStringAt s k) (of-string s k (of-relative k))
 
-  of-parent : {d : Once} {e : Field} → Alike d e → {f : Once} {g : Field} → Alike f g → Agree (parentFaults own s e g) (parentRules own s d f)
-  unfolding parentFaults parentRules optional isOther isIdText isPresent holds
-  of-parent a absent = alone same-none (true ∷ true ∷ []) refl
-  of-parent {d} {e} a (one k) = rw (present a) (kind-with k (isStringAt s k) (join (of-relative k) (last (rule (first.isPresent e) (otherRule k)))))
+  of-parent : {d : Once} {e : Field} → Alike d e → {f : Once} {g : Field} → Alike f g → Agree (parentFaults own s e g) (parentRules own decoded s d f)
+  unfolding parentFaults parentRule parentRules optional isText isPresent holds
+  of-parent a absent = alone same-none (true ∷ []) refl
+  of-parent {d} {e} a (one k) = rw (present a) (kind-with k (isStringAt s k) (of-string-and s k (first.isPresent e) (otherRule k) (of-relative k)))
 
-  of-device : (at : ℕ) → Agree (deviceFaults own s at) (deviceRules own s at)
-  unfolding deviceFaults deviceFieldFaults otherFaults deviceRules deviceFieldRules otherRules rootRules parentRules knownNames
+  of-device : (at : ℕ) → Agree (deviceFaults own s at) (deviceRules own decoded s at)
+  unfolding deviceFaults deviceFieldFaults otherFaults deviceRules deviceFieldRules otherRules parentRules knownNames
   of-device at = fields-agree owner.Device s at
       (λ t. let a = known owner.Device s at t in
       then (of-homie s at (a .0))
@@ -125,21 +133,21 @@ module _ (own s : List ℕ) where
       (join (then (held Object s (isObject s) (object s) (a .1 .1 .0))
       (then (held Text s (isStringAt s) (text s) (a .1 .1 .1 .0))
       (then (held Text s (isStringAt s) (text s) (a .1 .1 .1 .1 .0))
-      (then (held Ids s (arrayOf isIdText s) (ids s) (a .1 .1 .1 .1 .1 .0))
-      (last (held Texts s (arrayOf isStringAt s) (texts s) (a .1 .1 .1 .1 .1 .1 .1 .1 .0)))))))
-      (join (of-root (a .1 .1 .1 .1 .1 .1 .0))
+      (then (held Ids s (arrayOf (isText isId decoded s) s) (ids s) (a .1 .1 .1 .1 .1 .0))
+      (last (held Texts s (arrayOf (isStringAt s) s) (texts s) (a .1 .1 .1 .1 .1 .1 .1 .1 .0)))))))
+      (then (of-root (a .1 .1 .1 .1 .1 .1 .0))
       (join (of-parent (a .1 .1 .1 .1 .1 .1 .0) (a .1 .1 .1 .1 .1 .1 .1 .0))
       (of-nodes s (a .1 .1 .0)))))))
-      (λ e. let h = each-holds (deviceFieldRules own s at) e in none-twice owner.Device s at
-      (single (required-once (λ k. isStringAt s k && isHomie (stringBytes s k)) (field s at homie) (h .0))
-      (single (required-once (λ k. isNumber (integer (valueBytes s k))) (field s at version) (h .1 .0))
-      (single (optional-once (isObject s) (field s at nodes) (h .1 .1 .0))
-      (single (optional-once (isStringAt s) (field s at name) (h .1 .1 .1 .0))
-      (single (optional-once (isStringAt s) (field s at type) (h .1 .1 .1 .1 .0))
-      (single (optional-once (arrayOf isIdText s) (field s at children) (h .1 .1 .1 .1 .1 .0))
-      (single (optional-once (isIdText s) (field s at root) (h .1 .1 .1 .1 .1 .1 .1 .0))
-      (single (optional-once (isIdText s) (field s at parent) (h .1 .1 .1 .1 .1 .1 .1 .1 .1 .0))
-      (single (optional-once (arrayOf isStringAt s) (field s at extensions) (h .1 .1 .1 .1 .1 .1 .0)) done))))))))))
+      (λ e. let h = each-holds (deviceFieldRules own decoded s at) e in none-twice owner.Device s at
+      (single (required-once (isText isHomie decoded s) (field decoded s at homie) (h .0))
+      (single (required-once (λ k. isNumber (integer (valueBytes s k))) (field decoded s at version) (h .1 .0))
+      (single (optional-once (isObject s) (field decoded s at nodes) (h .1 .1 .0))
+      (single (optional-once (isStringAt s) (field decoded s at name) (h .1 .1 .1 .0))
+      (single (optional-once (isStringAt s) (field decoded s at type) (h .1 .1 .1 .1 .0))
+      (single (optional-once (arrayOf (isText isId decoded s) s) (field decoded s at children) (h .1 .1 .1 .1 .1 .0))
+      (single (optional-once (isText (isRelative own) decoded s) (field decoded s at root) (h .1 .1 .1 .1 .1 .1 .1 .0))
+      (single (optional-once (isText (isRelative own) decoded s) (field decoded s at parent) (h .1 .1 .1 .1 .1 .1 .1 .1 .0))
+      (single (optional-once (arrayOf (isStringAt s) s) (field decoded s at extensions) (h .1 .1 .1 .1 .1 .1 .0)) done))))))))))
 
 -- ---- the whole text
 
@@ -161,6 +169,6 @@ first-then : (fs gs : List Fault) {ts us : List Bool} → Agree fs ts → Agree 
 first-then [] gs {ts} {us} a b = record { tests = λ e. holds-parts ts us (a .tests refl) (b .tests e); faults = λ e. b .faults (parts-hold ts us e .1) }
 first-then (f ∷ fs) gs {ts} {us} a b = record { tests = λ e. absurd (false≢true (same-some f fs .0 e)); faults = λ e. a .faults (parts-hold ts us e .0) }
 
-pub agree : (own s : List ℕ) → Agree (faults own s) (rules own s)
+pub agree : (own s : List ℕ) → Agree (faults own s) (rules decoded own s)
 unfolding faults jsonFaults badPlaces rules
 agree own s = first-then (jsonFaults s) (deviceFaults own s (ws s 0)) (of-json (documentOf s) (isUtf8 s) (leb (length s) 8192) (utf8Place s)) (of-device own s (ws s 0))

@@ -1,7 +1,10 @@
 pub mod Same
+pub mod Strings
 pub mod Once
 pub mod Fields
 pub mod Entries
 pub mod Nodes
 pub mod Device
+pub mod Grows
+pub mod Grown
 pub mod Theorems

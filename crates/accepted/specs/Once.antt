@@ -1,11 +1,13 @@
--- Tests, and the fields of an object by how often they stand there (paper 01, "The description").
+-- Tests, how strings are read, and the fields of an object by how often they stand there (paper 01, "The description"; paper 02, K4).
 use Prim.Native.Nat.{ℕ}
 use mathlib.Core.List.{List, [], _∷_}
 use mathlib.Core.Bool.{Bool, true, false}
 use mathlib.Core.Option.{Option, none, some}
 use Rattle.text.specs.Bytes.{eqBytes}
+use Rattle.json.specs.Strings.{rawBytes, isPlain}
 use Rattle.json.specs.Members.{Member}
-use Rattle.fields.specs.Values.{stringBytes, members, nameOf, isPlain}
+use Rattle.escapes.specs.Decode.{Decoded, whole, half, decode}
+use Rattle.fields.specs.Values.{members}
 
 -- every test holds
 unfoldable pub holds : List Bool → Bool
@@ -16,6 +18,40 @@ holds (t ∷ ts) = elim t [ true ↦ holds ts | false ↦ false ]
 unfoldable pub all : (Member → Bool) → List Member → Bool
 all test [] = true
 all test (m ∷ ms) = elim (test m) [ true ↦ all test ms | false ↦ false ]
+
+-- ---- strings
+
+-- What stands between two quotes is read as a string, or it is not allowed there.
+abbrev pub Reading : Type 0
+Reading = List ℕ → Option (List ℕ)
+
+-- Paper 01: "House rule: no backslash in a field name of these objects nor in the strings `homie`, `datatype`, `root`, `parent`, a kept `format`, or an ID in
+-- `children`."
+unfoldable pub asSent : Reading
+asSent raw = elim (isPlain raw) [ true ↦ some raw | false ↦ none ]
+
+-- Paper 02, K4: these strings "are now decoded by RFC 8259 before any rule is applied, surrogate pairs included .. That rule falls .. half a surrogate pair in
+-- such a string is 25"
+unfoldable pub ifWhole : Decoded → Option (List ℕ)
+ifWhole (whole t) = some t
+ifWhole (half p) = none
+
+unfoldable pub decoded : Reading
+decoded raw = ifWhole (decode raw)
+
+-- the string at k
+unfoldable pub readAt : Reading → List ℕ → ℕ → Option (List ℕ)
+readAt read s k = read (rawBytes s k)
+
+-- it is allowed, and passes a test
+unfoldable pub passes : (List ℕ → Bool) → Option (List ℕ) → Bool
+passes test none = false
+passes test (some t) = test t
+
+unfoldable pub isRead : List ℕ → Bool
+isRead t = true
+
+-- ---- fields
 
 -- "No known field and no ID twice in its object.": a name stands there not at all, once with its value at k, or more often
 pub data Once : Type 0 where
@@ -29,17 +65,21 @@ oneMore Absent k = One k
 oneMore (One j) k = Twice
 oneMore Twice k = Twice
 
+-- a member has that name
+unfoldable pub isNamed : Reading → List ℕ → List ℕ → Member → Bool
+isNamed read s name m = passes (λ t. eqBytes t name) (readAt read s (m .name))
+
 -- what members add to what was seen of a name
-unfoldable pub fieldIn : List ℕ → List ℕ → Once → List Member → Once
-fieldIn s name seen [] = seen
-fieldIn s name seen (m ∷ ms) = elim (eqBytes (nameOf s m) name) [
-  | true ↦ fieldIn s name (oneMore seen (m .value)) ms
-  | false ↦ fieldIn s name seen ms
+unfoldable pub fieldIn : Reading → List ℕ → List ℕ → Once → List Member → Once
+fieldIn read s name seen [] = seen
+fieldIn read s name seen (m ∷ ms) = elim (isNamed read s name m) [
+  | true ↦ fieldIn read s name (oneMore seen (m .value)) ms
+  | false ↦ fieldIn read s name seen ms
 ]
 
 -- the field of that name in the object at `at`
-unfoldable pub field : List ℕ → ℕ → List ℕ → Once
-field s at name = fieldIn s name Absent (members s at)
+unfoldable pub field : Reading → List ℕ → ℕ → List ℕ → Once
+field read s at name = fieldIn read s name Absent (members s at)
 
 unfoldable pub isTwice : Once → Bool
 isTwice Absent = false
@@ -63,18 +103,12 @@ required test Absent = false
 required test (One k) = test k
 required test Twice = false
 
--- the string that a field holds
-unfoldable pub textIn : List ℕ → Once → Option (List ℕ)
-textIn s Absent = none
-textIn s (One k) = some (stringBytes s k)
-textIn s Twice = none
-
 -- the members of the object that a field holds
 unfoldable pub membersIn : List ℕ → Once → List Member
 membersIn s Absent = []
 membersIn s (One k) = members s k
 membersIn s Twice = []
 
--- "House rule: no backslash in a field name of these objects": of the one at `at`
-unfoldable pub plainNames : List ℕ → ℕ → Bool
-plainNames s at = all (λ m. isPlain (nameOf s m)) (members s at)
+-- the field names of the object at `at` are allowed
+unfoldable pub namesRead : Reading → List ℕ → ℕ → Bool
+namesRead read s at = all (λ m. passes isRead (readAt read s (m .name))) (members s at)

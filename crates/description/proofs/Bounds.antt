@@ -7,7 +7,6 @@ use mathlib.Core.Bool.{Bool, true, false}
 use mathlib.Core.Option.{Option, none, some}
 use lib.ListN.{length, drop}
 use lib.Dec.{eqb}
-use Rattle.text.specs.Bytes.{eqBytes}
 use Rattle.text.proofs.Bytes.{both}
 use Rattle.json.specs.Bytes.{byte, ws}
 use Rattle.json.specs.Value.{keyAt, valueAt}
@@ -23,18 +22,20 @@ use Rattle.json_grammar.proofs.Smallest.{fault-min, none-wrong}
 use Rattle.faults.specs.Faults.{Fault, missing, repeated, isEarlier, earlier, least, _otherwise_}
 use Rattle.faults.specs.declared.Told.{Told}
 use Rattle.faults.specs.declared.Told.the-variants.{Nothing, At}
-use Rattle.fields.specs.Values.{isArray, isObject, members, elements, nameOf}
-use Rattle.fields.specs.Fields.{oneMore, fieldIn, field, membersIn, ofKind, among, stringFaults, idFaults, arrayFaults, kindFaults, fieldFaults, closeAt, comesFirst, nameFaultsOf, nameFaults, entryFaults}
+use Rattle.fields.specs.Values.{isArray, isObject, members, elements, decodedAt, isNamed}
+use Rattle.fields.specs.Fields.{oneMore, fieldIn, field, membersIn, ofKind, among, stringFaults, unlessHalf, decodedFaults, idRule, idFaults, arrayFaults, kindFaults, fieldFaults, closeAt, comesFirst, repeatFaults, nameFaultsOf, nameFaults, entryFaults}
+use Rattle.fields.proofs.Decoded.{half-inside}
+use Rattle.escapes.specs.Decode.{Decoded, whole, half}
 use Rattle.fields.specs.declared.Field.{Field}
 use Rattle.fields.specs.declared.Field.the-variants.{Absent, First}
 use Rattle.fields.specs.declared.Kind.{Kind}
 use Rattle.fields.specs.declared.Kind.the-variants.{Text, Flag, Object, Ids, Texts}
 use Rattle.fields.specs.declared.Owner.{Owner}
 use Rattle.payload.specs.declared.Datatype.{Datatype}
-use Rattle.properties.specs.Property.{datatypeFaults, formatFaults, propertyFieldFaults, propertyFaults}
+use Rattle.properties.specs.Property.{datatypeRule, datatypeFaults, formatRule, givenFaults, formatFaults, propertyFieldFaults, propertyFaults}
 use Rattle.properties.specs.Entries.{propertiesMost}
-use Rattle.nodes.specs.Nodes.{each, propertyMember, nodeFieldFaults, nodeFaults, nodeMember, namedBy, namedIn, tooMany, nodesFaults}
-use Rattle.description.specs.Description.{homieFaults, versionFaults, otherFaults, relativeFaults, rootFaults, parentFaults, deviceFieldFaults, deviceFaults, told}
+use Rattle.nodes.specs.Nodes.{each, propertyMember, nodeFieldFaults, nodeFaults, nodeMember, namedBy, namedIn, tooManyAt, tooMany, nodesFaults}
+use Rattle.description.specs.Description.{homieRule, homieFaults, versionFaults, otherFaults, relativeFaults, rootFaults, parentRule, parentFaults, deviceFieldFaults, deviceFaults, told}
 use Rattle.description.proofs.Whole.{wrong-told, right-told}
 
 -- ---- lists
@@ -166,7 +167,7 @@ module _ (s : List ℕ) (b : ℕ) (long : length s ≤ b) where
   fieldIn-holds : (name : List ℕ) (f : Field) (ms : List Member) → Holds f → All (Inside b) ms → Holds (fieldIn s name f ms)
   unfolding fieldIn
   fieldIn-holds name f [] h all-none = h
-  fieldIn-holds name f (m ∷ ms) h (all-more i v) = both (eqBytes (nameOf s m) name)
+  fieldIn-holds name f (m ∷ ms) h (all-more i v) = both (isNamed s name m)
       (λ q. rw (q, fieldIn) (fieldIn-holds name (oneMore f (m .value)) ms (more-holds f (m .value) h (i .valued)) v))
       (λ q. rw (q, fieldIn) (fieldIn-holds name f ms h v))
 
@@ -204,13 +205,22 @@ module _ (s : List ℕ) (b : ℕ) (long : length s ≤ b) where
   among-within f [] all-none g = all-none
   among-within f (m ∷ ms) (all-more i v) g = append (g m i) (among-within f ms v g)
 
+  -- half a surrogate pair stands in the text too
+  decoded-within : (k : ℕ) {rules : List ℕ → List Fault} → ((t : List ℕ) → Within b (rules t)) → Within b (decodedFaults s k rules)
+  unfolding decodedFaults unlessHalf
+  decoded-within k {rules} w = go (decodedAt s k) refl
+    where
+      go : (d : Decoded) → decodedAt s k ≡ d → Within b (unlessHalf d k rules)
+      go (whole t) e = w t
+      go (half p) e = let h = half-inside s k e in one (omega arith)
+
   string-within : (k : ℕ) → k ≤ b → Within b (stringFaults s k)
   unfolding stringFaults
   string-within k h = rule _ (omega arith)
 
   id-within : (k : ℕ) → k ≤ b → Within b (idFaults s k)
-  unfolding idFaults
-  id-within k h = of-kind _ k h (rule _ (omega arith))
+  unfolding idFaults idRule
+  id-within k h = of-kind _ k h (decoded-within k (λ t. rule _ (omega arith)))
 
   array-within : (f : List ℕ → ℕ → List Fault) → ((k : ℕ) → k ≤ b → Within b (f s k)) → (k : ℕ) → k ≤ b → Within b (arrayFaults f s k)
   unfolding arrayFaults
@@ -236,12 +246,12 @@ module _ (s : List ℕ) (b : ℕ) (long : length s ≤ b) where
   missing-within at h = let k = close-inside at h in one (omega arith)
 
   name-within : (owner : Owner) (at : ℕ) → Within b (nameFaults owner s at)
-  unfolding nameFaults nameFaultsOf
-  name-within owner at = among-within (nameFaultsOf owner s at) (members s at) (members-inside at) (λ m i. append (rule _ (omega arith)) (rule _ (omega arith)))
+  unfolding nameFaults nameFaultsOf repeatFaults
+  name-within owner at = among-within (nameFaultsOf owner s at) (members s at) (members-inside at) (λ m i. decoded-within (m .name) (λ t. rule _ (omega arith)))
 
   entry-within : (at : ℕ) (value : List Fault) (m : Member) → Inside b m → Within b value → Within b (entryFaults s at value m)
-  unfolding entryFaults
-  entry-within at value m i w = append (rule _ (omega arith)) (go (comesFirst s at m))
+  unfolding entryFaults idRule
+  entry-within at value m i w = append (decoded-within (m .name) (λ t. rule _ (omega arith))) (go (comesFirst s at m))
     where
       go : (t : Bool) → Within b (elim t [ true ↦ value | false ↦ repeated (m .name) ∷ [] ])
       go true = w
@@ -250,15 +260,20 @@ module _ (s : List ℕ) (b : ℕ) (long : length s ≤ b) where
   -- ---- a property
 
   datatype-within : (at : ℕ) (f : Field) → at ≤ b → Holds f → Within b (datatypeFaults s at f)
-  unfolding datatypeFaults
+  unfolding datatypeFaults datatypeRule
   datatype-within at Absent h l = missing-within at h
-  datatype-within at (First k) h l = of-kind _ k l (rule _ (omega arith))
+  datatype-within at (First k) h l = of-kind _ k l (decoded-within k (λ t. rule _ (omega arith)))
+
+  given-within : (kept : Bool) (d : Datatype) (k : ℕ) → k ≤ b → Within b (givenFaults kept d s k)
+  unfolding givenFaults formatRule
+  given-within true d k h = decoded-within k (λ t. rule _ (omega arith))
+  given-within false d k h = all-none
 
   format-within : (at : ℕ) (d : Option Datatype) (f : Field) → at ≤ b → Holds f → Within b (formatFaults s at d f)
   unfolding formatFaults
   format-within at none f h l = field-within Text f l
   format-within at (some d) Absent h l = let k = close-inside at h in rule _ (omega arith)
-  format-within at (some d) (First k) h l = of-kind _ k l (rule _ (omega arith))
+  format-within at (some d) (First k) h l = of-kind _ k l (given-within _ d k l)
 
   property-within : (k : ℕ) → k ≤ b → Within b (propertyFaults s k)
   unfolding propertyFaults propertyFieldFaults
@@ -307,9 +322,9 @@ module _ (s : List ℕ) (b : ℕ) (long : length s ≤ b) where
   named-inside at [] = all-none
   named-inside at (n ∷ ns) = append (by-inside _ (n .value)) (named-inside at ns)
 
-  many-within : (ms : List Member) → All (Inside b) ms → Within b (tooMany ms)
-  unfolding tooMany
-  many-within ms v = among-within _ (drop propertiesMost ms) (dropped propertiesMost ms v) (λ m i. one (omega arith))
+  many-within : (ms : List Member) → All (Inside b) ms → Within b (tooMany s ms)
+  unfolding tooMany tooManyAt
+  many-within ms v = among-within _ (drop propertiesMost ms) (dropped propertiesMost ms v) (λ m i. decoded-within (m .name) (λ t. one (omega arith)))
 
   nodes-within : (f : Field) → Within b (nodesFaults s f)
   unfolding nodesFaults
@@ -319,9 +334,9 @@ module _ (s : List ℕ) (b : ℕ) (long : length s ≤ b) where
   -- ---- a device
 
   homie-within : (at : ℕ) (f : Field) → at ≤ b → Holds f → Within b (homieFaults s at f)
-  unfolding homieFaults
+  unfolding homieFaults homieRule
   homie-within at Absent h l = missing-within at h
-  homie-within at (First k) h l = of-kind _ k l (rule _ (omega arith))
+  homie-within at (First k) h l = of-kind _ k l (decoded-within k (λ t. rule _ (omega arith)))
 
   version-within : (at : ℕ) (f : Field) → at ≤ b → Holds f → Within b (versionFaults s at f)
   unfolding versionFaults
@@ -338,19 +353,19 @@ module _ (s : List ℕ) (b : ℕ) (long : length s ≤ b) where
       (known-within _ at _))))
 
   module _ (own : List ℕ) where
-    relative-within : (k : ℕ) → k ≤ b → Within b (relativeFaults own s k)
+    relative-within : (k : ℕ) → k ≤ b → (t : List ℕ) → Within b (relativeFaults own k t)
     unfolding relativeFaults
-    relative-within k h = append (rule _ (omega arith)) (rule _ (omega arith))
+    relative-within k h t = append (rule _ (omega arith)) (rule _ (omega arith))
 
     root-within : (f : Field) → Holds f → Within b (rootFaults own s f)
     unfolding rootFaults
     root-within Absent h = all-none
-    root-within (First k) h = of-kind _ k h (relative-within k h)
+    root-within (First k) h = of-kind _ k h (decoded-within k (relative-within k h))
 
     parent-within : (root f : Field) → Holds f → Within b (parentFaults own s root f)
-    unfolding parentFaults
+    unfolding parentFaults parentRule
     parent-within root Absent h = all-none
-    parent-within root (First k) h = of-kind _ k h (append (relative-within k h) (rule _ (omega arith)))
+    parent-within root (First k) h = of-kind _ k h (decoded-within k (λ t. append (relative-within k h t) (rule _ (omega arith))))
 
     device-within : (at : ℕ) → at ≤ b → Within b (deviceFaults own s at)
     unfolding deviceFaults deviceFieldFaults

@@ -19,7 +19,7 @@ use Rattle.faults.specs.declared.Told.the-variants.{Nothing, At}
 use Rattle.faults.specs.Faults.{Fault, least, otherRule, _otherwise_}
 use Rattle.faults.proofs.Laws.{at-nothing, both-none, rule-kept, least-nothing}
 use Rattle.fields.specs.Values.{stringBytes, isStringAt, isObject}
-use Rattle.fields.specs.Fields.{field, isPresent, textIn, nameFaults}
+use Rattle.fields.specs.Fields.{field, isPresent, textIn, nameFaults, decodedFaults}
 use Rattle.fields.specs.declared.Field.{Field}
 use Rattle.fields.specs.declared.Field.the-variants.{Absent, First}
 use Rattle.fields.specs.declared.Owner.the-variants as owner
@@ -31,38 +31,43 @@ use Rattle.properties.proofs.Theorems.{in-order}
 use Rattle.nodes.specs.Nodes.{nodesFaults}
 use Rattle.nodes.proofs.Theorems as ofNodes
 use Rattle.description.specs.Names.{homie, version, nodes, root, parent}
-use Rattle.description.specs.Description.{homieFaults, versionFaults, otherFaults, relativeFaults, rootFaults, parentFaults, declared, deviceFieldFaults, deviceFaults, told, Described, describedIn, describe}
+use Rattle.description.specs.Description.{homieFaults, versionFaults, otherFaults, relativeFaults, rootFaults, parentRule, parentFaults, declared, deviceFieldFaults, deviceFaults, told, Described, describedIn, describe}
+use Rattle.fields.proofs.Decoded.{no-faults}
 use Rattle.description.specs.Declares.{Other, Declares}
 use Rattle.description.proofs.Whole.{told-nothing, told-at, wrong-told, right-told}
 
 -- ---- a field that holds another device's ID
 
 module _ (own s : List ℕ) where
-  other-at : (k : ℕ) (id : List ℕ) → relativeFaults own s k ≡ [] → stringBytes s k ≡ id → Other own id
+  other-at : (k : ℕ) (id : List ℕ) → relativeFaults own k id ≡ [] → Other own id
   unfolding relativeFaults
-  other-at k id h t =
-      let q = both-none (isId (stringBytes s k) otherwise otherRule k) (not (eqBytes (stringBytes s k) own) otherwise otherRule k) h in
-      rw (sym t) (record {
-        is = rule-kept (isId (stringBytes s k)) (otherRule k) (q .0);
-        other = eqBytes-false (stringBytes s k) own (not-true _ (rule-kept (not (eqBytes (stringBytes s k) own)) (otherRule k) (q .1)));
-      })
+  other-at k id h =
+      let q = both-none (isId id otherwise otherRule k) (not (eqBytes id own) otherwise otherRule k) h in
+      record {
+        is = rule-kept (isId id) (otherRule k) (q .0);
+        other = eqBytes-false id own (not-true _ (rule-kept (not (eqBytes id own)) (otherRule k) (q .1)));
+      }
 
   root-other : (f : Field) (id : List ℕ) → rootFaults own s f ≡ [] → textIn s f ≡ some id → Other own id
   unfolding rootFaults textIn
   root-other Absent id h e = let z : _≡_ {A = ℕ} 0 1 = cc in absurd (omega arith)
-  root-other (First k) id h e = let t : stringBytes s k ≡ id = cc in other-at k id (kind-none (isStringAt s k) k (relativeFaults own s k) h .1) t
+  root-other (First k) id h e =
+      let t : stringBytes s k ≡ id = cc in
+      rw (sym t) (other-at k (stringBytes s k) (no-faults s k (relativeFaults own k) (kind-none (isStringAt s k) k (decodedFaults s k (relativeFaults own k)) h .1) .1))
 
   module _ (r : Field) where
-    parent-rules : (k : ℕ) → parentFaults own s r (First k) ≡ [] → (relativeFaults own s k ≡ []) × (isPresent r ≡ true)
-    unfolding parentFaults
+    parent-rules : (k : ℕ) → parentFaults own s r (First k) ≡ [] → (relativeFaults own k (stringBytes s k) ≡ []) × (isPresent r ≡ true)
+    unfolding parentFaults parentRule
     parent-rules k h =
-        let q = both-none (relativeFaults own s k) (isPresent r otherwise otherRule k) (kind-none (isStringAt s k) k (relativeFaults own s k ++ (isPresent r otherwise otherRule k)) h .1) in
+        let rules = parentRule own (isPresent r) k in
+        let w = no-faults s k rules (kind-none (isStringAt s k) k (decodedFaults s k rules) h .1) .1 in
+        let q = both-none (relativeFaults own k (stringBytes s k)) (isPresent r otherwise otherRule k) w in
         (q .0, rule-kept (isPresent r) (otherRule k) (q .1))
 
     parent-other : (f : Field) (id : List ℕ) → parentFaults own s r f ≡ [] → textIn s f ≡ some id → Other own id
     unfolding textIn
     parent-other Absent id h e = let z : _≡_ {A = ℕ} 0 1 = cc in absurd (omega arith)
-    parent-other (First k) id h e = let t : stringBytes s k ≡ id = cc in other-at k id (parent-rules k h .0) t
+    parent-other (First k) id h e = let t : stringBytes s k ≡ id = cc in rw (sym t) (other-at k (stringBytes s k) (parent-rules k h .0))
 
   no-parent : (r f : Field) → parentFaults own s r f ≡ [] → textIn s r ≡ none → textIn s f ≡ none
   unfolding textIn isPresent

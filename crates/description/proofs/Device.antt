@@ -14,7 +14,8 @@ use borrow.Author.Tests.{ne-eqb, eq-eqb, le-leb, lt-leb}
 use Rattle.text.specs.Bytes.{eqBytes, slice}
 use Rattle.text.specs.Ids.{isId}
 use Rattle.text.specs.Ascii.{ascii}
-use Rattle.text.proofs.Bytes.{both}
+use Rattle.text.proofs.Bytes.{both, and-both}
+use Rattle.text.proofs.Ids.{id-long}
 use Rattle.numbers.specs.Digits.{isDigit}
 use Rattle.numbers.specs.Integer.{integer, integerRead}
 use Rattle.numbers.specs.Whole.{stands}
@@ -24,13 +25,19 @@ use Rattle.faults.specs.declared.Told.{Told}
 use Rattle.faults.specs.declared.Told.the-variants.{Nothing, At}
 use Rattle.faults.specs.Faults.{Fault, isEarlier, earlier, least, otherRule, _otherwise_}
 use Rattle.faults.proofs.Laws.{is-beside, earlier-first, earlier-none, earlier-comm, earlier-assoc, at-nothing, least-one, rule-holds, rule-broken, join-told, least-join}
-use Rattle.fields.specs.Values.{valueBytes, stringBytes, isStringAt, isNumberAt}
-use Rattle.fields.specs.Fields.{isPresent, ofKind, closeAt}
+use Rattle.json.specs.Strings.{rawBytes, isPlain}
+use Rattle.escapes.specs.Decode.{Decoded, whole, half}
+use Rattle.escapes.specs.declared.Decoding.{Decoding}
+use Rattle.escapes.specs.declared.Decoding.the-variants.{Whole, Half}
+use Rattle.fields.specs.Values.{valueBytes, decodedAt, stringBytes, isStringAt, isNumberAt, DecodesAt}
+use Rattle.fields.specs.Fields.{isPresent, ofKind, unlessHalf, decodedFaults, noRule, closeAt}
+use Rattle.fields.proofs.Decoded.{plain-faults, whole-faults, decoded-faults, decoded-length, decoded-bytes, broken-faults, untold-whole, told-faults}
 use Rattle.fields.specs.declared.Field.{Field}
 use Rattle.fields.specs.declared.Field.the-variants.{Absent, First}
 use Rattle.fields.proofs.Values.{kind-other, kind-right}
 use Rattle.description.specs.declared.VersionRead.{VersionRead}
-use Rattle.description.specs.Description.{allDigits, isMinor, isHomie, homieFaults, versionIn, isNumber, versionFaults, relativeFaults, rootFaults, parentFaults}
+use Rattle.description.specs.Description.{allDigits, isMinor, isHomie, homieRule, homieFaults, versionIn, isNumber, versionFaults, relativeFaults, rootFaults, parentRule, parentFaults}
+use Rattle.description.proofs.Plain.{homie-plain}
 use Rattle.description.specs.Parts.{ReadsVersion}
 
 -- ---- digits
@@ -106,14 +113,56 @@ module _ (s : List ℕ) (at : ℕ) {f : Field} where
     unfolding homieFaults
     homie-kind x = rw e (kind-other k _ p x)
 
-    module _ {t : List ℕ} {r : Bool} (x : b ≡ true) (y : t ≡ stringBytes s k) (z : r ≡ isHomie t) where
-      pub homie-right : r ≡ true → Nothing ≡ least (homieFaults s at f)
+    module _ (x : b ≡ true) where
+      pub homie-as : {r : Told} → r ≡ least (decodedFaults s k (homieRule k)) → r ≡ least (homieFaults s at f)
       unfolding homieFaults
-      homie-right w = rw e (kind-right k _ p x (rule-holds (isHomie (stringBytes s k)) (otherRule k) (sym (z ∙ ap isHomie y) ∙ w)))
+      homie-as h = rw e (kind-right k _ p x h)
 
-      pub homie-wrong : r ≡ false → At k 25 ≡ least (homieFaults s at f)
-      unfolding homieFaults
-      homie-wrong w = rw e (kind-right k _ p x (rule-broken (isHomie (stringBytes s k)) (otherRule k) (sym (z ∙ ap isHomie y) ∙ w)))
+      -- by the bytes as sent: those of a version have no backslash
+      module _ {t : List ℕ} {r : Bool} (y : t ≡ rawBytes s k) (z : r ≡ isHomie t) where
+        pub homie-right : r ≡ true → Nothing ≡ least (homieFaults s at f)
+        unfolding homieRule
+        homie-right w =
+            let h : isHomie (rawBytes s k) ≡ true = sym (z ∙ ap isHomie y) ∙ w in
+            homie-as (rw (plain-faults s k (homie-plain (rawBytes s k) h) (homieRule k)) (rule-holds (isHomie (rawBytes s k)) (otherRule k) h))
+
+        pub homie-wrong : r ≡ false → {c : Bool} → c ≡ isPlain (rawBytes s k) → c ≡ true → At k 25 ≡ least (homieFaults s at f)
+        unfolding homieRule
+        homie-wrong w q i = homie-as (rw (plain-faults s k (sym q ∙ i) (homieRule k)) (rule-broken (isHomie (rawBytes s k)) (otherRule k) (sym (z ∙ ap isHomie y) ∙ w)))
+
+-- ---- a string that is decoded
+
+pub too-long : (s : List ℕ) (k : ℕ) {before after : List ℕ} {d : Decoding} → DecodesAt s k before after d → {n m : ℕ} → d ≡ Whole n → m < n → m < length (stringBytes s k)
+too-long s k w q h = let l = decoded-length s k w q in omega (arith, l, h)
+
+module _ (s : List ℕ) (k : ℕ) {before after : List ℕ} {d : Decoding} (w : DecodesAt s k before after d) (rules : List ℕ → List Fault) where
+  pub half-told : {p : ℕ} → d ≡ Half p → At p 25 ≡ least (decodedFaults s k rules)
+  half-told {p} q = rw (broken-faults s k w q rules) (least-one p 25)
+
+  module _ {n : ℕ} (q : d ≡ Whole n) where
+    pub whole-told : n ≤ length before → {t : List ℕ} {r : Told} → t ≡ slice after 0 n → r ≡ least (rules t) → r ≡ least (decodedFaults s k rules)
+    whole-told h {t} x y = y ∙ rw (decoded-bytes s k w q h x, decoded-faults s k w q rules)
+
+    pub long-told : At k 25 ≡ least (rules (stringBytes s k)) → At k 25 ≡ least (decodedFaults s k rules)
+    long-told h = rw (decoded-faults s k w q rules) h
+
+homie-short : (t : List ℕ) → 8 < length t → isHomie t ≡ false
+unfolding isHomie isMinor
+homie-short t h = both (eqBytes (take 2 t) (ascii "5."))
+    (λ e. rw (e, le-leb 1 (length (drop 2 t)) (rw (length-drop 2 t) (omega arith)), lt-leb (length (drop 2 t)) 3 (rw (length-drop 2 t) (omega arith))) refl)
+    (λ e. rw e refl)
+
+pub homie-long : (k : ℕ) (t : List ℕ) → 8 < length t → At k 25 ≡ least (homieRule k t)
+unfolding homieRule
+homie-long k t h = rule-broken (isHomie t) (otherRule k) (homie-short t h)
+
+pub homie-yes : (k : ℕ) (t : List ℕ) {r : Bool} → r ≡ isHomie t → r ≡ true → Nothing ≡ least (homieRule k t)
+unfolding homieRule
+homie-yes k t z w = rule-holds (isHomie t) (otherRule k) (sym z ∙ w)
+
+pub homie-no : (k : ℕ) (t : List ℕ) {r : Bool} → r ≡ isHomie t → r ≡ false → At k 25 ≡ least (homieRule k t)
+unfolding homieRule
+homie-no k t z w = rule-broken (isHomie t) (otherRule k) (sym z ∙ w)
 
 -- ---- the version
 
@@ -156,31 +205,31 @@ twice k t = both t
     (λ e. ap (λ (u : Told). earlier u (At k 25)) (sym (rule-holds t (otherRule k) e)))
     (λ e. ap (λ (u : Told). earlier u (At k 25)) (sym (rule-broken t (otherRule k) e)) ∙ earlier-first k 25 k 25 (sym (is-beside k 25 k 25 refl)))
 
-module _ (own s : List ℕ) (k : ℕ) {t : List ℕ} (x : t ≡ stringBytes s k) {b : Bool} (p : b ≡ isId t) where
-  id-is : b ≡ isId (stringBytes s k)
-  id-is = p ∙ ap isId x
-
-  pub relative-no-id : b ≡ false → At k 25 ≡ least (relativeFaults own s k)
+module _ (own : List ℕ) (k : ℕ) (t : List ℕ) {b : Bool} (p : b ≡ isId t) where
+  pub relative-no-id : b ≡ false → At k 25 ≡ least (relativeFaults own k t)
   unfolding relativeFaults
   relative-no-id e =
-      sym (twice k (not (eqBytes (stringBytes s k) own))) ∙
-      (flip (least (not (eqBytes (stringBytes s k) own) otherwise otherRule k)) ∙
-      join-told (isId (stringBytes s k) otherwise otherRule k) (not (eqBytes (stringBytes s k) own) otherwise otherRule k) (rule-broken (isId (stringBytes s k)) (otherRule k) (sym id-is ∙ e)) refl)
+      sym (twice k (not (eqBytes t own))) ∙
+      (flip (least (not (eqBytes t own) otherwise otherRule k)) ∙
+      join-told (isId t otherwise otherRule k) (not (eqBytes t own) otherwise otherRule k) (rule-broken (isId t) (otherRule k) (sym p ∙ e)) refl)
     where
       flip : (u : Told) → earlier u (At k 25) ≡ earlier (At k 25) u
       flip u = earlier-comm u (At k 25)
 
   module _ (e : b ≡ true) {c : Bool} (q : c ≡ eqBytes t own) where
-    same-is : c ≡ eqBytes (stringBytes s k) own
-    same-is = q ∙ ap (λ (u : List ℕ). eqBytes u own) x
-
-    pub relative-own : c ≡ true → At k 25 ≡ least (relativeFaults own s k)
+    pub relative-own : c ≡ true → At k 25 ≡ least (relativeFaults own k t)
     unfolding relativeFaults earlier
-    relative-own y = join-told (isId (stringBytes s k) otherwise otherRule k) (not (eqBytes (stringBytes s k) own) otherwise otherRule k) (rule-holds (isId (stringBytes s k)) (otherRule k) (sym id-is ∙ e)) (rule-broken (not (eqBytes (stringBytes s k) own)) (otherRule k) (ap not (sym same-is ∙ y)))
+    relative-own y = join-told (isId t otherwise otherRule k) (not (eqBytes t own) otherwise otherRule k) (rule-holds (isId t) (otherRule k) (sym p ∙ e)) (rule-broken (not (eqBytes t own)) (otherRule k) (ap not (sym q ∙ y)))
 
-    pub relative-other : c ≡ false → Nothing ≡ least (relativeFaults own s k)
+    pub relative-other : c ≡ false → Nothing ≡ least (relativeFaults own k t)
     unfolding relativeFaults earlier
-    relative-other y = join-told (isId (stringBytes s k) otherwise otherRule k) (not (eqBytes (stringBytes s k) own) otherwise otherRule k) (rule-holds (isId (stringBytes s k)) (otherRule k) (sym id-is ∙ e)) (rule-holds (not (eqBytes (stringBytes s k) own)) (otherRule k) (ap not (sym same-is ∙ y)))
+    relative-other y = join-told (isId t otherwise otherRule k) (not (eqBytes t own) otherwise otherRule k) (rule-holds (isId t) (otherRule k) (sym p ∙ e)) (rule-holds (not (eqBytes t own)) (otherRule k) (ap not (sym q ∙ y)))
+
+pub relative-long : (own : List ℕ) (k : ℕ) (t : List ℕ) → 32 < length t → At k 25 ≡ least (relativeFaults own k t)
+relative-long own k t h = relative-no-id own k t {b = false} (sym (id-long t h)) refl
+
+pub relative-plain : (own s : List ℕ) (k : ℕ) {c : Bool} → c ≡ isPlain (rawBytes s k) → c ≡ true → {t : List ℕ} {r : Told} → t ≡ rawBytes s k → r ≡ least (relativeFaults own k t) → r ≡ least (decodedFaults s k (relativeFaults own k))
+relative-plain own s k q i x h = h ∙ rw (x, plain-faults s k (sym q ∙ i) (relativeFaults own k))
 
 module _ (own s : List ℕ) {f : Field} where
   pub root-absent : f ≡ Absent → Nothing ≡ least (rootFaults own s f)
@@ -192,9 +241,36 @@ module _ (own s : List ℕ) {f : Field} where
     unfolding rootFaults
     root-kind x = rw e (kind-other k _ p x)
 
-    pub root-right : {t : Told} → b ≡ true → t ≡ least (relativeFaults own s k) → t ≡ least (rootFaults own s f)
+    pub root-right : {t : Told} → b ≡ true → t ≡ least (decodedFaults s k (relativeFaults own k)) → t ≡ least (rootFaults own s f)
     unfolding rootFaults
     root-right x h = rw e (kind-right k _ p x h)
+
+-- where there is a root, nothing more is asked of the parent
+rooted : (own s : List ℕ) (k : ℕ) → least (decodedFaults s k (relativeFaults own k)) ≡ least (decodedFaults s k (parentRule own true k))
+unfolding decodedFaults unlessHalf parentRule
+rooted own s k = go (decodedAt s k)
+  where
+    go : (d : Decoded) → least (unlessHalf d k (relativeFaults own k)) ≡ least (unlessHalf d k (parentRule own true k))
+    go (whole t) = sym (earlier-none (least (relativeFaults own k t))) ∙ join-told (relativeFaults own k t) (true otherwise otherRule k) refl (rule-holds true (otherRule k) refl)
+    go (half p) = refl
+
+-- and without one its bytes are at fault
+rootless : (own : List ℕ) (k : ℕ) (t : List ℕ) → At k 25 ≡ least (parentRule own false k t)
+unfolding parentRule relativeFaults
+rootless own k t =
+    let fa = isId t otherwise otherRule k in
+    let fo = not (eqBytes t own) otherwise otherRule k in
+    sym (twice k (isId t)) ∙
+    (ap (earlier (least fa)) (sym (twice k (not (eqBytes t own)))) ∙
+    (sym (earlier-assoc (least fa) (least fo) (At k 25)) ∙
+    join-told (fa ++ fo) (false otherwise otherRule k) (sym (least-join fa fo)) (rule-broken false (otherRule k) refl)))
+
+module _ (own s : List ℕ) (k : ℕ) {h : Told} (w : h ≡ least (decodedFaults s k noRule)) where
+  pub rootless-whole : h ≡ Nothing → At k 25 ≡ least (decodedFaults s k (parentRule own false k))
+  rootless-whole q = rw (whole-faults s k (parentRule own false k) (untold-whole s k w q)) (rootless own k (stringBytes s k))
+
+  pub rootless-half : {p n : ℕ} → h ≡ At p n → At p n ≡ least (decodedFaults s k (parentRule own false k))
+  rootless-half {p} {n} q = rw (told-faults s k w q (parentRule own false k)) (least-one p n)
 
 module _ (own s : List ℕ) (root : Field) {f : Field} where
   pub parent-absent : f ≡ Absent → Nothing ≡ least (parentFaults own s root f)
@@ -207,19 +283,10 @@ module _ (own s : List ℕ) (root : Field) {f : Field} where
     parent-kind x = rw e (kind-other k _ p x)
 
     module _ (x : b ≡ true) {c : Bool} (q : c ≡ isPresent root) where
-      pub parent-alone : c ≡ false → At k 25 ≡ least (parentFaults own s root f)
-      unfolding parentFaults relativeFaults
-      parent-alone y =
-          let a = isId (stringBytes s k) in
-          let o = not (eqBytes (stringBytes s k) own) in
-          let fa = a otherwise otherRule k in
-          let fo = o otherwise otherRule k in
-          rw e (kind-right k _ p x
-          (sym (twice k a) ∙
-          (ap (earlier (least fa)) (sym (twice k o)) ∙
-          (sym (earlier-assoc (least fa) (least fo) (At k 25)) ∙
-          join-told (fa ++ fo) (isPresent root otherwise otherRule k) (sym (least-join fa fo)) (rule-broken (isPresent root) (otherRule k) (sym q ∙ y))))))
-
-      pub parent-right : {t : Told} → c ≡ true → t ≡ least (relativeFaults own s k) → t ≡ least (parentFaults own s root f)
+      pub parent-alone : {t : Told} → c ≡ false → t ≡ least (decodedFaults s k (parentRule own false k)) → t ≡ least (parentFaults own s root f)
       unfolding parentFaults
-      parent-right {t} y h = rw e (kind-right k _ p x (sym (earlier-none t) ∙ join-told (relativeFaults own s k) (isPresent root otherwise otherRule k) h (rule-holds (isPresent root) (otherRule k) (sym q ∙ y))))
+      parent-alone y h = rw (e, sym q ∙ y) (kind-right k _ p x h)
+
+      pub parent-right : {t : Told} → c ≡ true → t ≡ least (decodedFaults s k (relativeFaults own k)) → t ≡ least (parentFaults own s root f)
+      unfolding parentFaults
+      parent-right y h = rw (e, sym q ∙ y) (kind-right k _ p x (h ∙ rooted own s k))

@@ -9,7 +9,7 @@ use Rattle.text.specs.Bytes.{eqBytes, every}
 use Rattle.text.specs.Ascii.{ascii}
 use Rattle.text.proofs.Bytes.{both, and-both, eqBytes-true}
 use Rattle.numbers.specs.Digits.{isDigit}
-use Rattle.fields.specs.Values.{isPlain}
+use Rattle.json.specs.Strings.{isPlain}
 use Rattle.fields.proofs.Plain.{every-plain, plain-append}
 use Rattle.description.specs.Description.{allDigits, isMinor, isHomie}
 

@@ -11,7 +11,6 @@ use Rattle.json_grammar.specs.Place.{NotJsonAt, LeastOf, JsonText, faultPlace}
 use Rattle.json_grammar.proofs.Theorems as grammar
 use Rattle.json_grammar.proofs.Smallest.{none-wrong}
 use Rattle.faults.specs.declared.Told.the-variants.{Nothing, At}
-use Rattle.fields.specs.Values.{isPlain}
 use Rattle.properties.specs.Valid.{Arranged}
 use Rattle.description.specs.declared.Description.{Description}
 use Rattle.description.specs.Description.{isHomie, declared, told, Described, describedIn, describe}
@@ -20,7 +19,6 @@ use Rattle.description.specs.Declares.{Declares}
 use Rattle.description.proofs.Whole as whole
 use Rattle.description.proofs.Bounds as bounds
 use Rattle.description.proofs.Declares as declaring
-use Rattle.description.proofs.Plain as plain
 
 -- ---- the answer of `describe`: it tells what is told of the faults
 
@@ -73,7 +71,3 @@ declares own s x e = declaring.declares own s e
 -- "by node ID, then property ID": the properties are those of the text, all of them
 pub arranged : (own s : List ℕ) (x : Described) → describe own s ≡ gives x → Arranged (declared s (ws s 0)) (x .properties)
 arranged own s x e = declaring.arranges own s e
-
--- "no backslash in .. the strings `homie`, ..": one that is taken has none
-pub homie-plain : (t : List ℕ) → isHomie t ≡ true → isPlain t ≡ true
-homie-plain = plain.homie-plain

@@ -1,4 +1,4 @@
--- A device's description (paper 01, "The description"; paper 02, K1): its faults, what is told of them, and what it declares.
+-- A device's description (paper 01, "The description"; paper 02, K1 and K4): its faults, what is told of them, and what it declares.
 -- `field s at name` is the field of that name in the object at the place `at` of the text s. The faults of nodes stand in crate `nodes`, those
 -- of a property in crate `properties`.
 use Prim.Native.Nat.{ℕ}
@@ -18,8 +18,8 @@ use Rattle.json_grammar.specs.Place.{badPlaces}
 use Rattle.faults.specs.Faults.{Fault, least, notJson, missing, otherRule, _otherwise_}
 use Rattle.faults.specs.declared.Told.{Told}
 use Rattle.faults.specs.declared.Told.the-variants.{Nothing, At}
-use Rattle.fields.specs.Values.{valueBytes, stringBytes, isStringAt, isNumberAt, isObject}
-use Rattle.fields.specs.Fields.{field, isPresent, textIn, membersIn, ofKind, fieldFaults, closeAt, nameFaults}
+use Rattle.fields.specs.Values.{valueBytes, isStringAt, isNumberAt, isObject}
+use Rattle.fields.specs.Fields.{field, isPresent, textIn, membersIn, ofKind, decodedFaults, fieldFaults, closeAt, nameFaults}
 use Rattle.fields.specs.declared.Field.{Field}
 use Rattle.fields.specs.declared.Field.the-variants.{Absent, First}
 use Rattle.fields.specs.declared.Kind.the-variants.{Text, Object, Ids, Texts}
@@ -44,9 +44,12 @@ isHomie t = eqBytes (take 2 t) (ascii "5.") && isMinor (drop 2 t)
 -- the known fields of the object at `at`
 
 -- "`homie` (required ..)"
+unfoldable pub homieRule : ℕ → List ℕ → List Fault
+homieRule k t = isHomie t otherwise otherRule k
+
 unfoldable pub homieFaults : List ℕ → ℕ → Field → List Fault
 homieFaults s at Absent = missing (closeAt s at) ∷ []
-homieFaults s at (First k) = ofKind (isStringAt s k) k (isHomie (stringBytes s k) otherwise otherRule k)
+homieFaults s at (First k) = ofKind (isStringAt s k) k (decodedFaults s k (homieRule k))
 
 -- "`version` (required, number without fraction or exponent, signed 64-bit)": the number that a field holds
 unfoldable pub versionIn : List ℕ → Field → Option ℤ
@@ -70,20 +73,23 @@ otherFaults s at =
     (fieldFaults Ids s (field s at children) ++
     fieldFaults Texts s (field s at extensions))))
 
--- "`root`, `parent` (IDs)": the string at k. "neither is the device's own ID"
-unfoldable pub relativeFaults : List ℕ → List ℕ → ℕ → List Fault
-relativeFaults own s k =
-    (isId (stringBytes s k) otherwise otherRule k) ++
-    (not (eqBytes (stringBytes s k) own) otherwise otherRule k)
+-- "`root`, `parent` (IDs)": a string at k, by its bytes. "neither is the device's own ID"
+unfoldable pub relativeFaults : List ℕ → ℕ → List ℕ → List Fault
+relativeFaults own k t =
+    (isId t otherwise otherRule k) ++
+    (not (eqBytes t own) otherwise otherRule k)
 
 unfoldable pub rootFaults : List ℕ → List ℕ → Field → List Fault
 rootFaults own s Absent = []
-rootFaults own s (First k) = ofKind (isStringAt s k) k (relativeFaults own s k)
+rootFaults own s (First k) = ofKind (isStringAt s k) k (decodedFaults s k (relativeFaults own k))
 
--- "`parent` without `root` is 25 at the `parent` string": `root` is the other field
+-- "`parent` without `root` is 25 at the `parent` string": `rooted` where the field `root` is there
+unfoldable pub parentRule : List ℕ → Bool → ℕ → List ℕ → List Fault
+parentRule own rooted k t = relativeFaults own k t ++ (rooted otherwise otherRule k)
+
 unfoldable pub parentFaults : List ℕ → List ℕ → (root parent : Field) → List Fault
 parentFaults own s root Absent = []
-parentFaults own s root (First k) = ofKind (isStringAt s k) k (relativeFaults own s k ++ (isPresent root otherwise otherRule k))
+parentFaults own s root (First k) = ofKind (isStringAt s k) k (decodedFaults s k (parentRule own (isPresent root) k))
 
 -- all properties, in the text's order
 unfoldable pub declared : List ℕ → ℕ → List Property

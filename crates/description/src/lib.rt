@@ -1,4 +1,5 @@
 // A device's description: judged, and what it declares.
+use escapes::Decoding;
 use faults::MISSING;
 use faults::NOT_JSON;
 use faults::OTHER_RULE;
@@ -12,17 +13,19 @@ use json::Scan;
 use numbers::integers::IntegerRead;
 use properties::Entries;
 ghost use mathlib.Core.Path.{_≡_};
-ghost use mathlib.Core.Bool.{true};
-ghost use Prim.Native.Nat.{_≤_};
+ghost use mathlib.Core.Bool.{true, false};
+ghost use Prim.Native.Nat.{ℕ, _≤_};
+ghost use mathlib.Core.List.{List};
 ghost use lib.ListN.{length};
 ghost use Rattle.text.specs.Utf8.{isUtf8};
 ghost use Rattle.json_grammar.specs.Place.{faultPlace};
 ghost use Rattle.faults.specs.Faults.{least};
 ghost use Rattle.faults.specs.declared.Told.the-variants.{At};
 ghost use Rattle.json.specs.Ends.{Ends};
+ghost use Rattle.fields.specs.Fields.{decodedFaults};
 ghost use Rattle.fields.specs.Known.{Knows};
 ghost use Rattle.fields.specs.declared.Owner.the-variants as owner;
-ghost use Rattle.description.specs.Description.{allDigits, isMinor, isHomie, homieFaults, relativeFaults, rootFaults, parentFaults, deviceFieldFaults, deviceFaults, told, describe};
+ghost use Rattle.description.specs.Description.{allDigits, isMinor, isHomie, homieRule, homieFaults, relativeFaults, rootFaults, parentRule, parentFaults, deviceFieldFaults, deviceFaults, told, describe};
 ghost use Rattle.description.specs.Parts.{ReadsVersion, otherFaultsIn, relativesIn, Tells};
 ghost use Rattle.description.specs.Meaning.{meaning};
 
@@ -90,6 +93,25 @@ fn is_homie(t: &[u8]) -> bool
     is_minor(text::slice(t, 2, t.len()))
 }
 
+// What is told of the string at `k`, which has a backslash and should be a version of the convention.
+fn escaped_homie_told(s: &[u8], k: usize) -> Told
+    ensures { λ r. ⌜ r ≡ least (decodedFaults (now (s .entry)) k (homieRule k)) ⌝ }
+{
+    let mut version = [0u8; 8];
+    match fields::decode_at(s, k, &mut version) {
+        Decoding::Half(backslash) => Told::At(backslash, OTHER_RULE),
+        Decoding::Whole(n) => {
+            if n > 8 {
+                return Told::At(k, OTHER_RULE);
+            }
+            if is_homie(text::slice(&version, 0, n)) {
+                return Told::Nothing;
+            }
+            Told::At(k, OTHER_RULE)
+        }
+    }
+}
+
 // What is told of `homie` in the object at `at`.
 fn homie_told(s: &[u8], at: usize, f: Field, ends: &[u16]) -> Told
     ensures { λ r. ⌜ (Ends (now (s .entry)) (now (ends .entry)) → r ≡ least (homieFaults (now (s .entry)) at f)) ⌝ }
@@ -100,10 +122,13 @@ fn homie_told(s: &[u8], at: usize, f: Field, ends: &[u16]) -> Told
     if !fields::is_string(s, k) {
         return Told::At(k, WRONG_KIND);
     }
-    if is_homie(fields::string_bytes_by(s, k, ends)) {
+    if is_homie(fields::raw_bytes_by(s, k, ends)) {
         return Told::Nothing;
     }
-    Told::At(k, OTHER_RULE)
+    if json::is_plain_by(s, k, ends) {
+        return Told::At(k, OTHER_RULE);
+    }
+    escaped_homie_told(s, k)
 }
 
 // No version, since this is told of it.
@@ -154,11 +179,10 @@ fn others_told(s: &[u8], seen: &[usize; 16], ends: &[u16]) -> Told
     faults::earlier(nodes, texts)
 }
 
-// What is told of the string at `k`, which should be the ID of another device.
-fn relative_told(own: &[u8], s: &[u8], k: usize, ends: &[u16]) -> Told
-    ensures { λ r. ⌜ (Ends (now (s .entry)) (now (ends .entry)) → r ≡ least (relativeFaults (now (own .entry)) (now (s .entry)) k)) ⌝ }
+// What is told of the bytes of a string at `k`, which should be the ID of another device.
+fn relative_rule(own: &[u8], k: usize, id: &[u8]) -> Told
+    ensures { λ r. ⌜ r ≡ least (relativeFaults (now (own .entry)) k (now (id .entry))) ⌝ }
 {
-    let id = fields::string_bytes_by(s, k, ends);
     if !text::is_id(id) {
         return Told::At(k, OTHER_RULE);
     }
@@ -166,6 +190,32 @@ fn relative_told(own: &[u8], s: &[u8], k: usize, ends: &[u16]) -> Told
         return Told::At(k, OTHER_RULE);
     }
     Told::Nothing
+}
+
+// The same of the string itself, which has a backslash.
+fn escaped_relative_told(own: &[u8], s: &[u8], k: usize) -> Told
+    ensures { λ r. ⌜ r ≡ least (decodedFaults (now (s .entry)) k (relativeFaults (now (own .entry)) k)) ⌝ }
+{
+    let mut id = [0u8; 32];
+    match fields::decode_at(s, k, &mut id) {
+        Decoding::Half(place) => Told::At(place, OTHER_RULE),
+        Decoding::Whole(n) => {
+            if n > 32 {
+                return Told::At(k, OTHER_RULE);
+            }
+            relative_rule(own, k, text::slice(&id, 0, n))
+        }
+    }
+}
+
+// What is told of the string at `k`, which should be the ID of another device.
+fn relative_told(own: &[u8], s: &[u8], k: usize, ends: &[u16]) -> Told
+    ensures { λ r. ⌜ (Ends (now (s .entry)) (now (ends .entry)) → r ≡ least (decodedFaults (now (s .entry)) k (relativeFaults (now (own .entry)) k))) ⌝ }
+{
+    if json::is_plain_by(s, k, ends) {
+        return relative_rule(own, k, fields::raw_bytes_by(s, k, ends));
+    }
+    escaped_relative_told(own, s, k)
 }
 
 fn root_told(own: &[u8], s: &[u8], f: Field, ends: &[u16]) -> Told
@@ -180,6 +230,16 @@ fn root_told(own: &[u8], s: &[u8], f: Field, ends: &[u16]) -> Told
     relative_told(own, s, root, ends)
 }
 
+// What is told of the string at `k`, a `parent` without `root`.
+fn rootless_told(s: &[u8], k: usize, ends: &[u16]) -> Told
+    ensures { λ r. ⌜ (Ends (now (s .entry)) (now (ends .entry)) → (own : List ℕ) → r ≡ least (decodedFaults (now (s .entry)) k (parentRule own false k))) ⌝ }
+{
+    match fields::half_told(s, k, ends) {
+        Told::Nothing => Told::At(k, OTHER_RULE),
+        Told::At(place, number) => Told::At(place, number),
+    }
+}
+
 // What is told of `parent`, which needs `root`.
 fn parent_told(own: &[u8], s: &[u8], root: Field, f: Field, ends: &[u16]) -> Told
     ensures { λ r. ⌜ (Ends (now (s .entry)) (now (ends .entry)) → r ≡ least (parentFaults (now (own .entry)) (now (s .entry)) root f)) ⌝ }
@@ -191,7 +251,7 @@ fn parent_told(own: &[u8], s: &[u8], root: Field, f: Field, ends: &[u16]) -> Tol
         return Told::At(parent, WRONG_KIND);
     }
     if !fields::is_present(root) {
-        return Told::At(parent, OTHER_RULE);
+        return rootless_told(s, parent, ends);
     }
     relative_told(own, s, parent, ends)
 }

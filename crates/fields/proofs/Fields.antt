@@ -10,9 +10,11 @@ use borrow.Author.Tests.{eq-eqb, ne-eqb, eqb-true, eqb-false}
 use Rattle.json.specs.Bytes.{byte, ws}
 use Rattle.json.specs.Members.{Member, memberAt, GotItem}
 use Rattle.json.specs.declared.Item.the-variants.{At, Done}
-use Rattle.text.specs.Bytes.{eqBytes}
+use Rattle.json.specs.Strings.{rawBytes}
+use Rattle.escapes.specs.Decode.{Decoded, whole, half, decode, isThis, alike}
 use Rattle.text.proofs.Bytes.{both, at-most, eqBytes-refl}
 use Rattle.faults.specs.declared.Told.{Told}
+use Rattle.faults.specs.declared.Told.the-variants as told
 use Rattle.faults.specs.declared.Told.the-variants.{Nothing}
 use Rattle.faults.specs.Faults.{earlier, least}
 use Rattle.fields.specs.declared.Kind.{Kind}
@@ -20,10 +22,11 @@ use Rattle.fields.specs.declared.Owner.{Owner}
 use Rattle.fields.specs.declared.Field.{Field}
 use Rattle.fields.specs.declared.Field.the-variants.{Absent, First}
 use Rattle.fields.specs.declared.Known.{Known}
-use Rattle.fields.specs.Values.{stringBytes, isTrue, nameOf}
-use Rattle.fields.specs.Fields.{oneMore, fieldIn, field, isPresent, flagIn, kindFaults, fieldFaults, isFirst, comesFirst, nameFaultsOf, nameFaults}
+use Rattle.fields.specs.Values.{decodedAt, stringBytes, isTrue, isNamed}
+use Rattle.fields.specs.Fields.{oneMore, fieldIn, field, isPresent, flagIn, unlessHalf, decodedFaults, noRule, kindFaults, fieldFaults, isFirst, firstOf, repeatFaults, nameFaultsOf, nameFaults}
 use Rattle.fields.specs.Known.{knownName, fieldAt, Knows, IsMember}
-use Rattle.fields.specs.Parts.{Classified, seenFaults, seenMore, Saw}
+use Rattle.fields.specs.Parts.{Classified, againFaults, seenFaults, seenMore, Saw}
+use Rattle.fields.proofs.Decoded.{untold-whole, told-broken}
 use Rattle.fields.proofs.Numbers.{other-unknown, known-name, at-none, at-some}
 use Rattle.fields.proofs.Walk.{Walking, walking-as, at-done, at-item, no-members, first-member, Telling, tell-done, tell-item, tell-no-members, tell-members}
 
@@ -31,7 +34,7 @@ use Rattle.fields.proofs.Walk.{Walking, walking-as, at-done, at-item, n
 pub stays-first : (s name : List ℕ) (k : ℕ) (ms : List Member) → fieldIn s name (First k) ms ≡ First k
 unfolding fieldIn oneMore
 stays-first s name k [] = refl
-stays-first s name k (m ∷ ms) = both (eqBytes (nameOf s m) name)
+stays-first s name k (m ∷ ms) = both (isNamed s name m)
     (λ e. rw (e, fieldIn) (stays-first s name k ms))
     (λ e. rw (e, fieldIn) (stays-first s name k ms))
 
@@ -57,10 +60,10 @@ module _ (s name : List ℕ) (seen : Field) (i : ℕ) {want : Field} (g : Lookin
   unfolding fieldIn
   look-done q = at-done (memberAt s) (fieldIn s name seen) (length s) i g q
 
-  module _ {k e n : ℕ} (w : GotItem (memberAt s i) i (length s) (At k e n)) {t : List ℕ} {b : Bool} (x : t ≡ stringBytes s i) (y : b ≡ eqBytes t name) where
-    hit : b ≡ eqBytes (nameOf s (record { name = i; value = k; end = e })) name
-    unfolding nameOf
-    hit = y ∙ ap (λ (u : List ℕ). eqBytes u name) x
+  module _ {k e n : ℕ} (w : GotItem (memberAt s i) i (length s) (At k e n)) {b : Bool} (y : b ≡ isThis name (decodedAt s i)) where
+    hit : b ≡ isNamed s name (record { name = i; value = k; end = e })
+    unfolding isNamed
+    hit = y
 
     pub look-hit : {seen′ : Field} → b ≡ true → seen′ ≡ oneMore seen k → Looking s name seen′ n want
     unfolding fieldIn
@@ -78,9 +81,9 @@ module _ (s name : List ℕ) (seen : Field) (i : ℕ) {want : Field} (g : Lookin
         (λ q. subst (λ (f : Field). Looking s name f n want) (sym (z ∙ rw q)) (look-miss q))
 
 -- the first member of that name
-pub look-found : (s name : List ℕ) (i : ℕ) {want : Field} → Looking s name Absent i want → {k e n : ℕ} → GotItem (memberAt s i) i (length s) (At k e n) → {t : List ℕ} {b : Bool} → t ≡ stringBytes s i → b ≡ eqBytes t name → b ≡ true → First k ≡ want
+pub look-found : (s name : List ℕ) (i : ℕ) {want : Field} → Looking s name Absent i want → {k e n : ℕ} → GotItem (memberAt s i) i (length s) (At k e n) → {b : Bool} → b ≡ isThis name (decodedAt s i) → b ≡ true → First k ≡ want
 unfolding oneMore
-look-found s name i g {k} {e} {n} w x y q = look-settled s name k n (look-hit s name Absent i g w x y q refl)
+look-found s name i g {k} {e} {n} w y q = look-settled s name k n (look-hit s name Absent i g w y q refl)
 
 -- ---- by the field's case
 
@@ -93,8 +96,15 @@ module _ (k : ℕ) {f : Field} where
   unfolding isFirst
   first-at q = rw q
 
-pub first-is : (s : List ℕ) (at k i : ℕ) {t : List ℕ} {f : Field} {r : Bool} → t ≡ stringBytes s i → f ≡ field s at t → r ≡ isFirst k f → r ≡ isFirst k (field s at (stringBytes s i))
-first-is s at k i x y z = z ∙ ap (isFirst k) (y ∙ ap (field s at) x)
+-- by what is told of half a pair in the name at i
+module _ (s : List ℕ) (at k i : ℕ) {r : Told} (w : r ≡ least (decodedFaults s i noRule)) where
+  pub comes-half : {p n : ℕ} → r ≡ told.At p n → true ≡ firstOf s at k (decodedAt s i)
+  unfolding firstOf
+  comes-half {p} {n} q = let h = told-broken s i w q in rw (h .1)
+
+  pub comes-whole : {f : Field} {b : Bool} → r ≡ Nothing → f ≡ field s at (stringBytes s i) → b ≡ isFirst k f → b ≡ firstOf s at k (decodedAt s i)
+  unfolding firstOf
+  comes-whole q x y = y ∙ (ap (isFirst k) x ∙ sym (ap (firstOf s at k) (untold-whole s i w q)))
 
 module _ {f : Field} where
   pub present-absent : f ≡ Absent → false ≡ isPresent f
@@ -156,9 +166,9 @@ module _ (owner : Owner) (s : List ℕ) (at : ℕ) (told : Told) (seen : List �
     fields = λ c h. ap (λ (l : List ℕ). fieldAt l c) f ∙ look-done s (knownName c) (fieldAt seen c) i (g .looks c h) q;
   }
 
-  module _ {k e n : ℕ} (w : GotItem (memberAt s i) i (length s) (At k e n)) {t : List ℕ} (x : t ≡ stringBytes s i) {c : ℕ} (y : Classified t c) (before : getD seen c 0 < i) where
+  module _ {k e n : ℕ} (w : GotItem (memberAt s i) i (length s) (At k e n)) {c : ℕ} (y : Classified (decodedAt s i) c) (before : getD seen c 0 < i) where
     fresh : c < 15 → getD seen c 0 ≡ 0 → First k ≡ field s at (knownName c)
-    fresh h q = look-found s (knownName c) i (subst (λ (f : Field). Looking s (knownName c) f i (field s at (knownName c))) (sym (at-none seen c q)) (g .looks c h)) w x refl (y .names c h ∙ eq-eqb c c refl)
+    fresh h q = look-found s (knownName c) i (subst (λ (f : Field). Looking s (knownName c) f i (field s at (knownName c))) (sym (at-none seen c q)) (g .looks c h)) w refl (y .names c h ∙ eq-eqb c c refl)
 
     stale : c < 15 → (getD seen c 0 ≡ 0 → ⊥) → First (getD seen c 0) ≡ field s at (knownName c)
     stale h q = look-settled s (knownName c) (getD seen c 0) i (subst (λ (f : Field). Looking s (knownName c) f i (field s at (knownName c))) (sym (at-some seen c q)) (g .looks c h))
@@ -170,16 +180,20 @@ module _ (owner : Owner) (s : List ℕ) (at : ℕ) (told : Told) (seen : List �
         (λ q. q ∙ sym (ap (isFirst k) (sym (fresh h (eqb-true (getD seen c 0) 0 q))) ∙ eq-eqb k k refl))
         (λ q. q ∙ sym (ap (isFirst k) (sym (stale h (eqb-false (getD seen c 0) 0 q))) ∙ ne-eqb (getD seen c 0) k (λ j. absurd (let l = w .lies in omega arith))))
 
-    name-faults : nameFaultsOf owner s at (record { name = i; value = k; end = e }) ≡ seenFaults owner t (getD seen c 0) i
-    unfolding nameFaultsOf seenFaults comesFirst nameOf
-    name-faults = rw (sym x) (at-most c 14
-        (λ h. rw (known-name y (omega arith), sym (seen-first (omega arith))))
-        (λ h. rw (other-unknown y owner (omega arith))))
+    name-faults : nameFaultsOf owner s at (record { name = i; value = k; end = e }) ≡ seenFaults owner (decodedAt s i) (getD seen c 0) i
+    unfolding nameFaultsOf seenFaults decodedFaults unlessHalf repeatFaults againFaults
+    name-faults = go (decodedAt s i) y
+      where
+        go : (d : Decoded) → Classified d c → unlessHalf d i (repeatFaults owner s at (record { name = i; value = k; end = e })) ≡ unlessHalf d i (againFaults owner (getD seen c 0) i)
+        go (whole t) z = at-most c 14
+            (λ h. rw (known-name z (omega arith), sym (seen-first (omega arith))))
+            (λ h. rw (other-unknown z owner (omega arith)))
+        go (half p) z = refl
 
-    pub note-more : {r told′ : Told} {seen′ : List ℕ} → 0 < i → r ≡ least (seenFaults owner t (getD seen c 0) i) → told′ ≡ earlier told r → Saw c k seen seen′ → Noting owner s at told′ seen′ n
-    note-more {r} {told′} {seen′} o q p v = record {
-      names = tell-item (memberAt s) (nameFaultsOf owner s at) (length s) told i (g .names) w p (q ∙ ap least (sym name-faults));
-      looks = λ j l. look-on s (knownName j) (fieldAt seen j) i (g .looks j l) w x (sym (y .names j l)) (v .more (let z = w .lies in omega arith) j (omega arith));
+    pub note-more : {told′ : Told} {seen′ : List ℕ} → told′ ≡ earlier told (least (seenFaults owner (decodedAt s i) (getD seen c 0) i)) → Saw c k seen seen′ → 0 < i → Noting owner s at told′ seen′ n
+    note-more {told′} {seen′} p v o = record {
+      names = tell-item (memberAt s) (nameFaultsOf owner s at) (length s) told i (g .names) w p (ap least (sym name-faults));
+      looks = λ j l. look-on s (knownName j) (fieldAt seen j) i (g .looks j l) w (sym (y .names j l)) (v .more (let z = w .lies in omega arith) j (omega arith));
     }
 
 -- the turn of the walk at i, with places seen before it; what holds of it if the table is right
@@ -189,10 +203,17 @@ pub record Turn (given : Type 0) (seen : List ℕ) (i : ℕ) (X : Type 0) : Type
   pub below : (c : ℕ) → getD seen c 0 < i
   pub going : given → X
 
--- a name is its own
-pub own-name : (s name : List ℕ) {i own : ℕ} → i ≡ own → name ≡ stringBytes s own → true ≡ eqBytes (stringBytes s i) name
-own-name s name {i} {own} e q = rw (e, q) (sym (eqBytes-refl (stringBytes s own)))
+-- the search for the name at `own`, which has no half pair
+module _ (s : List ℕ) (own : ℕ) (w : decodedAt s own ≡ whole (stringBytes s own)) where
+  -- what another string is told to be
+  pub alike-this : {raw : List ℕ} (i : ℕ) {b : Bool} → raw ≡ rawBytes s own → b ≡ alike (decode raw) (decodedAt s i) → b ≡ isThis (stringBytes s own) (decodedAt s i)
+  unfolding decodedAt alike
+  alike-this {raw} i {b} x y = y ∙ rw (x, w)
 
--- the search ends at the member itself
-pub own-found : (s name : List ℕ) {i own value : ℕ} {want : Field} → Looking s name Absent i want → i ≡ own → IsMember s own value → name ≡ stringBytes s own → First value ≡ want
-own-found s name {i} {own} {value} g e w q = look-found s name i g (subst (λ (j : ℕ). GotItem (memberAt s j) j (length s) (At value (w .end) (w .next))) (sym e) (w .got)) refl refl (sym (own-name s name e q))
+  own-this : true ≡ isThis (stringBytes s own) (decodedAt s own)
+  unfolding isThis
+  own-this = rw w (sym (eqBytes-refl (stringBytes s own)))
+
+  -- it ends at the member itself
+  pub own-found : {i value : ℕ} {want : Field} → Looking s (stringBytes s own) Absent i want → i ≡ own → IsMember s own value → First value ≡ want
+  own-found {i} {value} {want} g e m = look-found s (stringBytes s own) own (subst (λ (j : ℕ). Looking s (stringBytes s own) Absent j want) e g) (m .got) own-this refl

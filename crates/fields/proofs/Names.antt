@@ -1,7 +1,7 @@
 -- Members that all come first have different names.
 use Prim.Native.Nat.{ℕ, zero, suc, _+_, _≤_, _<_}
 use native.Mathlib.Omega.{arith}
-use mathlib.Core.Path.{_≡_, refl, sym, _∙_}
+use mathlib.Core.Path.{_≡_, refl, sym, ap, _∙_}
 use mathlib.Core.List.{List, [], _∷_}
 use mathlib.Core.Bool.{Bool, true, false, false≢true}
 use lib.Dec.{eqb}
@@ -17,12 +17,14 @@ use Rattle.json.specs.declared.Item.the-variants.{At, Done}
 use Rattle.json_grammar.proofs.Ends.{Past, key-past, value-past}
 use Rattle.text.specs.Ids.{isId}
 use Rattle.text.proofs.Bytes.{both}
-use Rattle.faults.specs.Faults.{Fault, otherRule, repeated, _otherwise_}
+use Rattle.escapes.specs.Decode as D
+use Rattle.faults.specs.Faults.{Fault, otherRule, repeated}
 use Rattle.faults.proofs.Laws.{both-none, rule-kept}
 use Rattle.fields.specs.declared.Field.{Field}
 use Rattle.fields.specs.declared.Field.the-variants.{Absent, First}
-use Rattle.fields.specs.Values.{isObject, members, nameOf}
-use Rattle.fields.specs.Fields.{among, field, isFirst, comesFirst, entryFaults}
+use Rattle.fields.specs.Values.{decodedAt, stringBytes, isObject, members, nameOf}
+use Rattle.fields.specs.Fields.{decodedFaults, idRule, among, field, isFirst, firstOf, comesFirst, entryFaults}
+use Rattle.fields.proofs.Decoded.{no-faults}
 
 -- none has that name
 pub data Unnamed (s name : List ℕ) : List Member → Type 0 where
@@ -34,10 +36,10 @@ pub data Unlike (s : List ℕ) : List Member → Type 0 where
   none : Unlike s []
   more : {m : Member} {ms : List Member} → Unnamed s (nameOf s m) ms → Unlike s ms → Unlike s (m ∷ ms)
 
--- each is the first of its name in the object at `at`
+-- each has a name without half a surrogate pair, and is the first of that name in the object at `at`
 pub data Firsts (s : List ℕ) (at : ℕ) : List Member → Type 0 where
   firsts-none : Firsts s at []
-  firsts-more : {m : Member} {ms : List Member} → comesFirst s at m ≡ true → Firsts s at ms → Firsts s at (m ∷ ms)
+  firsts-more : {m : Member} {ms : List Member} → decodedAt s (m .name) ≡ D.whole (nameOf s m) → comesFirst s at m ≡ true → Firsts s at ms → Firsts s at (m ∷ ms)
 
 -- ---- where members have no fault
 
@@ -52,26 +54,28 @@ module _ (f : Member → List Fault) (m : Member) (ms : List Member) (h : among 
 
 -- an entry with no fault has an ID, is the first of its name, and its value has none
 pub record Entry (s : List ℕ) (at : ℕ) (value : List Fault) (m : Member) : Type 0 where
+  pub whole : decodedAt s (m .name) ≡ D.whole (nameOf s m)
   pub id : isId (nameOf s m) ≡ true
   pub first : comesFirst s at m ≡ true
   pub valid : value ≡ []
 
 module _ (s : List ℕ) (at : ℕ) where
   pub entry : (value : List Fault) (m : Member) → entryFaults s at value m ≡ [] → Entry s at value m
-  unfolding entryFaults
+  unfolding entryFaults nameOf idRule
   entry value m h =
-      let q = both-none (isId (nameOf s m) otherwise otherRule (m .name)) (elim (comesFirst s at m) [ true ↦ value | false ↦ repeated (m .name) ∷ [] ]) h in
-      go (comesFirst s at m) refl (rule-kept (isId (nameOf s m)) (otherRule (m .name)) (q .0)) (q .1)
+      let q = both-none (decodedFaults s (m .name) (idRule (m .name))) (elim (comesFirst s at m) [ true ↦ value | false ↦ repeated (m .name) ∷ [] ]) h in
+      let n = no-faults s (m .name) (idRule (m .name)) (q .0) in
+      go (comesFirst s at m) refl (n .0) (rule-kept (isId (stringBytes s (m .name))) (otherRule (m .name)) (n .1)) (q .1)
     where
-      go : (b : Bool) → comesFirst s at m ≡ b → isId (nameOf s m) ≡ true → _≡_ {A = List Fault} (elim b [ true ↦ value | false ↦ repeated (m .name) ∷ [] ]) [] → Entry s at value m
-      go true e i v = record { id = i; first = e; valid = v }
-      go false e i v = let z : _≡_ {A = ℕ} 0 1 = cc in absurd (omega arith)
+      go : (b : Bool) → comesFirst s at m ≡ b → decodedAt s (m .name) ≡ D.whole (nameOf s m) → isId (nameOf s m) ≡ true → _≡_ {A = List Fault} (elim b [ true ↦ value | false ↦ repeated (m .name) ∷ [] ]) [] → Entry s at value m
+      go true e w i v = record { whole = w; id = i; first = e; valid = v }
+      go false e w i v = let z : _≡_ {A = ℕ} 0 1 = cc in absurd (omega arith)
 
   pub firsts : (value : Member → List Fault) (ms : List Member) → among (λ m. entryFaults s at (value m) m) ms ≡ [] → Firsts s at ms
   firsts value [] h = firsts-none
   firsts value (m ∷ ms) h =
-      firsts-more (entry (value m) m (among-first (λ m. entryFaults s at (value m) m) m ms h) .first)
-      (firsts value ms (among-rest (λ m. entryFaults s at (value m) m) m ms h))
+      let e = entry (value m) m (among-first (λ m. entryFaults s at (value m) m) m ms h) in
+      firsts-more (e .whole) (e .first) (firsts value ms (among-rest (λ m. entryFaults s at (value m) m) m ms h))
 
 -- ---- values stand one behind another
 
@@ -138,17 +142,21 @@ same-first Absent j k p q = absurd (false≢true p)
 same-first (First i) j k p q = sym (eqb-true i j p) ∙ eqb-true i k q
 
 module _ (s : List ℕ) (at : ℕ) where
-  differ : (m n : Member) → comesFirst s at m ≡ true → comesFirst s at n ≡ true → m .value < n .value → nameOf s n ≡ nameOf s m → ⊥
-  unfolding comesFirst
+  -- the first of a name without half a pair
+  pub first-named : (m : Member) → decodedAt s (m .name) ≡ D.whole (nameOf s m) → comesFirst s at m ≡ isFirst (m .value) (field s at (nameOf s m))
+  unfolding comesFirst firstOf
+  first-named m w = ap (firstOf s at (m .value)) w
+
+  differ : (m n : Member) → isFirst (m .value) (field s at (nameOf s m)) ≡ true → isFirst (n .value) (field s at (nameOf s n)) ≡ true → m .value < n .value → nameOf s n ≡ nameOf s m → ⊥
   differ m n p q h e = let z = same-first (field s at (nameOf s m)) (m .value) (n .value) p (rw e at q) in omega arith
 
-  unnamed : (m : Member) (ms : List Member) {n : ℕ} → m .value < n → Ascend n ms → comesFirst s at m ≡ true → Firsts s at ms → Unnamed s (nameOf s m) ms
+  unnamed : (m : Member) (ms : List Member) {n : ℕ} → m .value < n → Ascend n ms → isFirst (m .value) (field s at (nameOf s m)) ≡ true → Firsts s at ms → Unnamed s (nameOf s m) ms
   unnamed m [] h a p firsts-none = unnamed-none
-  unnamed m (n ∷ ms) h (ascend-more l a) p (firsts-more q f) = unnamed-more (differ m n p q (omega arith)) (unnamed m ms (omega arith) a p f)
+  unnamed m (n ∷ ms) h (ascend-more l a) p (firsts-more w q f) = unnamed-more (differ m n p (sym (first-named n w) ∙ q) (omega arith)) (unnamed m ms (omega arith) a p f)
 
   apart : (ms : List Member) {n : ℕ} → Ascend n ms → Firsts s at ms → Unlike s ms
   apart [] a firsts-none = none
-  apart (m ∷ ms) (ascend-more l a) (firsts-more p f) = more (unnamed m ms (omega arith) a p f) (apart ms a f)
+  apart (m ∷ ms) (ascend-more l a) (firsts-more w p f) = more (unnamed m ms (omega arith) a (sym (first-named m w) ∙ p) f) (apart ms a f)
 
   pub unlike : Firsts s at (members s at) → Unlike s (members s at)
   unlike f = apart (members s at) (members-ascend s at) f

@@ -8,20 +8,26 @@ use lib.ListN.{length, getD, set, replicate, length-set}
 use lib.Seq.{getD-set-same, getD-set-other}
 use lib.Dec.{eqb, leb, lit<}
 use borrow.Author.Tests.{eq-eqb, ne-eqb, eqb-true, leb-true}
-use Rattle.text.specs.Bytes.{eqBytes}
+use Rattle.json.specs.Strings.{rawBytes, isPlain}
+use Rattle.text.specs.Bytes.{eqBytes, slice}
+use Rattle.escapes.specs.Decode.{Decoded, whole, half, isThis}
+use Rattle.escapes.specs.declared.Decoding.{Decoding}
+use Rattle.escapes.specs.declared.Decoding.the-variants.{Whole, Half}
+use Rattle.fields.proofs.Decoded.{plain-decoded, decoded-whole, decoded-length, decoded-bytes, broken-at}
 use Rattle.fields.proofs.Rules.{or-as}
 use Rattle.text.proofs.Bytes.{both, and-both, eqBytes-true, at-most}
+use Rattle.faults.specs.declared.Told.{Told}
 use Rattle.faults.specs.declared.Told.the-variants.{Nothing, At}
 use Rattle.faults.specs.Faults.{earlier, least, _otherwise_}
 use Rattle.fields.specs.declared.Owner.{Owner}
 use Rattle.fields.specs.declared.Owner.the-variants.{Device, Node, Property}
 use Rattle.fields.specs.declared.Field.{Field}
 use Rattle.fields.specs.declared.Field.the-variants.{Absent, First}
-use Rattle.fields.specs.Values.{isPlain}
-use Rattle.fields.specs.Fields.{oneMore}
+use Rattle.fields.specs.Values.{decodedAt, stringBytes, DecodesAt}
+use Rattle.fields.specs.Fields.{unlessHalf, decodedFaults, noRule, oneMore}
 use Rattle.fields.specs.Names.{knownNames, isOneOf, isKnown}
 use Rattle.fields.specs.Known.{knownName, fieldFrom, fieldAt}
-use Rattle.fields.specs.Parts.{Numbered, search, names4, names5, names6, names7, names8, names10, namesOf, numberOf, Classified, isKnownNumber, seenFaults, seenMore, Saw}
+use Rattle.fields.specs.Parts.{Numbered, search, names4, names5, names6, names7, names8, names10, namesOf, numberOf, Classified, isKnownNumber, againFaults, seenFaults, seenMore, Saw}
 
 -- ---- a test of all numbers below a bound
 
@@ -126,9 +132,43 @@ module _ (t : List ℕ) where
       (λ e. e ∙ sym (ne-eqb j c (λ q. let y : numberOf t ≡ j = omega arith in
       false≢true (sym e ∙ sym (ap (λ (k : ℕ). eqBytes t (knownName k)) y) ∙ known-right (omega arith)))))
 
-  pub classified : {c : ℕ} → c ≡ numberOf t → Classified t c
+  number-low : {c : ℕ} → c ≡ numberOf t → c < 16
   unfolding numberOf
-  classified {c} p = record { low = rw p (search-low (namesOf (length t)) t (names-right (length t))); names = names-of c p }
+  number-low p = rw p (search-low (namesOf (length t)) t (names-right (length t)))
+
+  classified : {c : ℕ} → c ≡ numberOf t → Classified (whole t) c
+  unfolding isThis
+  classified {c} p = record { low = number-low p; names = names-of c p }
+
+  -- a known name has no backslash
+  number-plain : numberOf t < 15 → isPlain t ≡ true
+  number-plain h = ap isPlain (eqBytes-true t (knownName (numberOf t)) (known-right h)) ∙ known-plain (numberOf t) h
+
+-- half a pair is in no known name
+half-classified : (p : ℕ) → Classified (half p) 15
+unfolding isThis
+half-classified p = record { low = omega arith; names = λ j h. sym (ne-eqb j 15 (λ e. absurd (omega arith))) }
+
+-- the number of the name at i, by the bytes it is sent as
+module _ (s : List ℕ) (i : ℕ) {t : List ℕ} {c : ℕ} (n : c ≡ numberOf t) where
+  pub number-known : t ≡ rawBytes s i → c < 15 → Classified (decodedAt s i) c
+  number-known x h = rw (plain-decoded s i (rw x at (number-plain t (omega arith))), sym x) (classified t n)
+
+  pub number-other : {b : Bool} → t ≡ rawBytes s i → 15 ≤ c → b ≡ isPlain (rawBytes s i) → b ≡ true → Classified (decodedAt s i) 15
+  number-other x h p e = let l = number-low t n in let z : c ≡ 15 = omega arith in rw (plain-decoded s i (sym p ∙ e), sym x) (classified t (sym z ∙ n))
+
+  -- or decoded
+  pub number-decoded : {before after : List ℕ} {r : Decoding} {k : ℕ} → DecodesAt s i before after r → r ≡ Whole k → k ≤ length before → t ≡ slice after 0 k → Classified (decodedAt s i) c
+  number-decoded w q h x = rw (decoded-whole s i w q, sym (decoded-bytes s i w q h x)) (classified t n)
+
+module _ (s : List ℕ) (i : ℕ) {before after : List ℕ} {r : Decoding} (w : DecodesAt s i before after r) where
+  pub number-half : {p : ℕ} → r ≡ Half p → Classified (decodedAt s i) 15
+  number-half q = let h = broken-at s i w q in rw (h .1) (half-classified (h .0))
+
+  -- no known name is so long
+  pub number-long : {k : ℕ} → r ≡ Whole k → 10 < k → Classified (decodedAt s i) 15
+  number-long q h = let l = decoded-length s i w q in
+      rw (decoded-whole s i w q) (classified (stringBytes s i) (no-length (stringBytes s i) (λ e. omega arith) (λ e. omega arith) (λ e. omega arith) (λ e. omega arith) (λ e. omega arith) (λ e. omega arith)))
 
 -- ---- known fields by their numbers
 
@@ -137,12 +177,16 @@ eqb-comm a b = both (eqb a b)
     (λ e. e ∙ sym (eq-eqb b a (sym (eqb-true a b e))))
     (λ e. e ∙ sym (ne-eqb b a (λ q. true≢false (sym (eq-eqb a b (sym q)) ∙ e))))
 
-module _ {t : List ℕ} {c : ℕ} (y : Classified t c) where
+module _ {t : List ℕ} {c : ℕ} (y : Classified (whole t) c) where
+  named : (j : ℕ) → j < 15 → eqBytes t (knownName j) ≡ eqb j c
+  unfolding isThis
+  named = y .names
+
   one-more : (j : ℕ) → j < 15 → (names : List (List ℕ)) {b : Bool} → isOneOf t names ≡ b → isOneOf t (knownName j ∷ names) ≡ (eqb c j || b)
   unfolding isOneOf
   one-more j h names x = both (eqb c j)
-      (λ e. rw (e, y .names j h ∙ eqb-comm j c ∙ e, isOneOf))
-      (λ e. rw (e, y .names j h ∙ eqb-comm j c ∙ e, isOneOf) x)
+      (λ e. rw (e, named j h ∙ eqb-comm j c ∙ e, isOneOf))
+      (λ e. rw (e, named j h ∙ eqb-comm j c ∙ e, isOneOf) x)
 
   one-last : (j : ℕ) → j < 15 → isOneOf t (knownName j ∷ []) ≡ eqb c j
   unfolding isOneOf
@@ -165,10 +209,12 @@ module _ {t : List ℕ} {c : ℕ} (y : Classified t c) where
       go Property = refl
 
   pub known-name : c < 15 → t ≡ knownName c
-  known-name h = eqBytes-true t (knownName c) (y .names c h ∙ eq-eqb c c refl)
+  known-name h = eqBytes-true t (knownName c) (named c h ∙ eq-eqb c c refl)
 
-  pub name-plain : c < 15 → isPlain t ≡ true
-  name-plain h = ap isPlain (known-name h) ∙ known-plain c h
+-- half a pair has no known one's
+half-other : {p c : ℕ} → Classified (half p) c → c < 15 → ⊥
+unfolding isThis
+half-other {p} {c} y h = false≢true (y .names c h ∙ eq-eqb c c refl)
 
 -- the tests of an owner's numbers, from the last one on
 
@@ -190,28 +236,33 @@ of-owner o c q x = x ∙ ap (λ (z : Owner). isKnownNumber z c) (sym q)
 
 -- ---- what is told of a name
 
-module _ (owner : Owner) (t : List ℕ) (first i : ℕ) where
-  seen-none : isPlain t ≡ true → (not (isKnown owner t) || eqb first 0) ≡ true → Nothing ≡ least (seenFaults owner t first i)
-  unfolding seenFaults _otherwise_ least
-  seen-none p q = rw (p, q)
+module _ (owner : Owner) (first i : ℕ) where
+  whole-none : (t : List ℕ) → (not (isKnown owner t) || eqb first 0) ≡ true → Nothing ≡ least (seenFaults owner (whole t) first i)
+  unfolding seenFaults unlessHalf againFaults _otherwise_ least
+  whole-none t q = rw q
 
-  module _ {c : ℕ} (y : Classified t c) where
-    pub name-unknown : {b : Bool} → 15 ≤ c → b ≡ isPlain t → b ≡ true → Nothing ≡ least (seenFaults owner t first i)
-    name-unknown h p e = seen-none (sym p ∙ e) (rw (other-unknown y owner h))
+module _ (owner : Owner) (first i : ℕ) {c : ℕ} where
+  pub name-other : (s : List ℕ) {r : Told} → Classified (decodedAt s i) c → 15 ≤ c → r ≡ least (decodedFaults s i noRule) → r ≡ least (seenFaults owner (decodedAt s i) first i)
+  unfolding decodedFaults seenFaults unlessHalf noRule least
+  name-other s y h x = x ∙ go (decodedAt s i) y
+    where
+      go : (d : Decoded) → Classified d c → least (unlessHalf d i noRule) ≡ least (seenFaults owner d first i)
+      go (whole t) z = whole-none owner first i t (rw (other-unknown z owner h))
+      go (half p) z = refl
 
-    pub name-escaped : {b : Bool} → 15 ≤ c → b ≡ isPlain t → b ≡ false → At i 25 ≡ least (seenFaults owner t first i)
-    unfolding seenFaults _otherwise_ least earlier
-    name-escaped h p e = rw (sym p ∙ e, other-unknown y owner h)
+  pub name-first : (d : Decoded) → Classified d c → c < 15 → first ≡ 0 → Nothing ≡ least (seenFaults owner d first i)
+  name-first (whole t) y h e = whole-none owner first i t (rw (eq-eqb first 0 e) (or-true (not (isKnown owner t))))
+  name-first (half p) y h e = absurd (half-other y h)
 
-    pub name-first : c < 15 → first ≡ 0 → Nothing ≡ least (seenFaults owner t first i)
-    name-first h e = seen-none (name-plain y h) (rw (eq-eqb first 0 e) (or-true (not (isKnown owner t))))
+  module _ {b : Bool} (p : b ≡ isKnownNumber owner c) where
+    pub name-repeated : (d : Decoded) → Classified d c → c < 15 → (first ≡ 0 → ⊥) → b ≡ true → At i 24 ≡ least (seenFaults owner d first i)
+    unfolding seenFaults unlessHalf againFaults _otherwise_ least earlier
+    name-repeated (whole t) y h n e = rw (known-is y owner ∙ sym p ∙ e, ne-eqb first 0 n)
+    name-repeated (half q) y h n e = absurd (half-other y h)
 
-    pub name-repeated : {b : Bool} → c < 15 → (first ≡ 0 → ⊥) → b ≡ isKnownNumber owner c → b ≡ true → At i 24 ≡ least (seenFaults owner t first i)
-    unfolding seenFaults _otherwise_ least earlier
-    name-repeated h n p e = rw (name-plain y h, known-is y owner ∙ sym p ∙ e, ne-eqb first 0 n)
-
-    pub name-other : {b : Bool} → c < 15 → b ≡ isKnownNumber owner c → b ≡ false → Nothing ≡ least (seenFaults owner t first i)
-    name-other h p e = seen-none (name-plain y h) (rw (known-is y owner ∙ sym p ∙ e))
+    pub name-foreign : (d : Decoded) → Classified d c → c < 15 → b ≡ false → Nothing ≡ least (seenFaults owner d first i)
+    name-foreign (whole t) y h e = whole-none owner first i t (rw (known-is y owner ∙ sym p ∙ e))
+    name-foreign (half q) y h e = absurd (half-other y h)
 
 -- ---- what is noted
 

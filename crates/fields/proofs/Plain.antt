@@ -5,11 +5,11 @@ use mathlib.Core.List.{List, [], _∷_, _++_}
 use mathlib.Core.Bool.{Bool, true, false, false≢true}
 use lib.Dec.{eqb}
 use borrow.Author.Tests.{eqb-true}
+use Rattle.json.specs.Strings.{isPlain}
 use Rattle.text.specs.Bytes.{every}
 use Rattle.text.specs.Ids.{idByte, isId}
 use Rattle.text.proofs.Bytes.{both, and-both}
 use Rattle.text.proofs.Ids.{is-id}
-use Rattle.fields.specs.Values.{isPlain}
 
 module _ (test : ℕ → Bool) (n : test 92 ≡ false) where
   no-backslash : (b : ℕ) → test b ≡ true → eqb b 92 ≡ false

@@ -1,15 +1,12 @@
 -- What each way through the code shows of a value.
 use Prim.Native.Nat.{ℕ, _+_, _-_, _≤_, _<_}
-use native.Mathlib.Numerals.{add-one}
 use mathlib.Core.Path.{_≡_, refl, sym, _∙_}
 use mathlib.Core.List.{List, []}
 use mathlib.Core.Bool.{Bool, true, false}
-use lib.ListN.{length, drop, getD, drop-of-length-le}
-use lib.Seq.{drop-cons}
 use lib.Dec.{eqb, leb}
 use borrow.Author.Tests.{ne-eqb, eq-eqb, le-leb, lt-leb}
 use Rattle.json.specs.Bytes.{byte}
-use Rattle.json.specs.Strings.{stringAt}
+use Rattle.json.specs.Strings.{stringAt, rawBytes}
 use Rattle.json.specs.Value.{valueAt}
 use Rattle.json.specs.declared.Scan.{Scan}
 use Rattle.json.specs.declared.Scan.the-variants.{End, Bad}
@@ -18,7 +15,7 @@ use Rattle.json.specs.Number.{isDigit}
 use Rattle.faults.specs.declared.Told.{Told}
 use Rattle.faults.specs.declared.Told.the-variants.{At}
 use Rattle.faults.specs.Faults.{Fault, earlier, least, _otherwise_}
-use Rattle.fields.specs.Values.{valueBytes, stringBytes, isStringAt, isObject, isArray, isTrue, isFlag, isNumberAt, isPlain, elements}
+use Rattle.fields.specs.Values.{valueBytes, isStringAt, isObject, isArray, isTrue, isFlag, isNumberAt, elements}
 use Rattle.fields.specs.Fields.{ofKind, among, stringFaults, idFaults, arrayFaults, closeAt}
 use Rattle.fields.specs.Parts.{itemFaults}
 
@@ -33,16 +30,16 @@ module _ (s : List ℕ) (k : ℕ) {r : Scan} (p : r ≡ valueAt 16 s k) where
   unfolding valueBytes
   bytes-some q x = x ∙ rw (sym p ∙ q, valueBytes)
 
--- ---- a string's bytes
+-- ---- what stands between a string's quotes
 
 module _ (s : List ℕ) (k : ℕ) {r : Scan} (p : r ≡ stringAt s k) where
-  pub text-none : {e : ℕ} → r ≡ Bad e → [] ≡ stringBytes s k
-  unfolding stringBytes
-  text-none q = rw (sym p ∙ q, stringBytes)
+  pub raw-none : {e : ℕ} → r ≡ Bad e → [] ≡ rawBytes s k
+  unfolding rawBytes
+  raw-none q = rw (sym p ∙ q, rawBytes)
 
-  pub text-some : {e : ℕ} {t : List ℕ} → r ≡ End e → t ≡ slice s (k + 1) (e - 1) → t ≡ stringBytes s k
-  unfolding stringBytes
-  text-some q x = x ∙ rw (sym p ∙ q, stringBytes)
+  pub raw-some : {e : ℕ} {t : List ℕ} → r ≡ End e → t ≡ slice s (k + 1) (e - 1) → t ≡ rawBytes s k
+  unfolding rawBytes
+  raw-some q x = x ∙ rw (sym p ∙ q, rawBytes)
 
 -- ---- kinds
 
@@ -66,21 +63,6 @@ module _ (s : List ℕ) (k : ℕ) {b : ℕ} (p : b ≡ byte s k) where
 pub flag-yes : (s : List ℕ) (k : ℕ) {t : Bool} → t ≡ isTrue s k → t ≡ true → true ≡ isFlag s k
 unfolding isFlag
 flag-yes s k e q = rw (sym e ∙ q)
-
--- ---- no backslash
-
-module _ (s : List ℕ) (i : ℕ) where
-  pub plain-end : length s ≤ i → isPlain (drop i s) ≡ true
-  unfolding isPlain
-  plain-end h = rw (drop-of-length-le s h)
-
-  pub plain-no : i < length s → getD s i 0 ≡ 92 → isPlain (drop i s) ≡ false
-  unfolding isPlain
-  plain-no h e = rw (drop-cons s i 0 h) (rw (eq-eqb (getD s i 0) 92 e, isPlain))
-
-  pub plain-more : i < length s → (getD s i 0 ≡ 92 → ⊥) → isPlain (drop (i + 1) s) ≡ isPlain (drop i s)
-  unfolding isPlain
-  plain-more h n = rw (drop-cons s i 0 h, add-one) (rw (ne-eqb (getD s i 0) 92 n, isPlain))
 
 -- ---- a number's first byte
 

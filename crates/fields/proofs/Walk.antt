@@ -63,10 +63,6 @@ module _ {X : Type 0} (f : List Member → X) (s : List ℕ) (at : ℕ) {b : ℕ
   unfolding members isObject
   first-member {i} e q h = record { within = h; going = rw (eq-eqb (byte s at) 123 (sym p ∙ e), members) (walk-members f s at i q) }
 
-  pub no-elements : (b ≡ 91 → ⊥) → f [] ≡ f (elements s at)
-  unfolding elements isArray
-  no-elements n = ap f (sym (rw (ne-eqb (byte s at) 91 (λ q. n (p ∙ q)), elements)))
-
   pub first-element : {i : ℕ} → b ≡ 91 → i ≡ ws s (at + 1) → i ≤ length s → Walking (elementAt s) f (length s) i (f (elements s at))
   unfolding elements isArray
   first-element {i} e q h = record { within = h; going = rw (eq-eqb (byte s at) 91 (sym p ∙ e), elements) (walk-elements f s at i q) }

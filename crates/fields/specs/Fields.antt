@@ -1,5 +1,5 @@
--- Known fields of an object, each at its first member of that name, and the faults of fields and names (paper 02, K1).
-use Prim.Native.Nat.{ℕ, _-_}
+-- Known fields of an object, each at its first member of that name, and the faults of fields and names (paper 02, K1 and K4).
+use Prim.Native.Nat.{ℕ, suc, _+_, _-_}
 use mathlib.Core.List.{List, [], _∷_, _++_}
 use mathlib.Core.Bool.{Bool, true, false, not, _||_}
 use mathlib.Core.Option.{Option, none, some}
@@ -7,15 +7,15 @@ use lib.Dec.{eqb}
 use Rattle.json.specs.Value.{valueAt}
 use Rattle.json.specs.Members.{Member}
 use Rattle.json.specs.declared.Scan.the-variants.{End, Bad}
-use Rattle.text.specs.Bytes.{eqBytes}
 use Rattle.text.specs.Ids.{isId}
+use Rattle.escapes.specs.Decode.{Decoded, whole, half}
 use Rattle.faults.specs.Faults.{Fault, wrongKind, repeated, otherRule, _otherwise_}
 use Rattle.fields.specs.declared.Kind.{Kind}
 use Rattle.fields.specs.declared.Kind.the-variants.{Text, Flag, Object, Ids, Texts}
 use Rattle.fields.specs.declared.Owner.{Owner}
 use Rattle.fields.specs.declared.Field.{Field}
 use Rattle.fields.specs.declared.Field.the-variants.{Absent, First}
-use Rattle.fields.specs.Values.{stringBytes, isStringAt, isObject, isArray, isTrue, isFlag, members, elements, nameOf, isPlain}
+use Rattle.fields.specs.Values.{stringBytes, isStringAt, isObject, isArray, isTrue, isFlag, members, elements, decodedAt, isNamed}
 use Rattle.fields.specs.Names.{isKnown}
 
 -- ---- fields
@@ -28,7 +28,7 @@ oneMore (First j) k = First j
 -- what members add to what was seen of a name
 unfoldable pub fieldIn : List ℕ → List ℕ → Field → List Member → Field
 fieldIn s name seen [] = seen
-fieldIn s name seen (m ∷ ms) = elim (eqBytes (nameOf s m) name) [
+fieldIn s name seen (m ∷ ms) = elim (isNamed s name m) [
   | true ↦ fieldIn s name (oneMore seen (m .value)) ms
   | false ↦ fieldIn s name seen ms
 ]
@@ -71,9 +71,25 @@ among f (m ∷ ms) = f m ++ among f ms
 unfoldable pub stringFaults : List ℕ → ℕ → List Fault
 stringFaults s k = isStringAt s k otherwise wrongKind k
 
--- a string that is an ID. An ID has no backslash
+-- Paper 02, K4: "half a surrogate pair in such a string is 25, told at its backslash, and no other rule is applied to that string": the faults of a string that
+-- opens at k, by those that its bytes have
+unfoldable pub unlessHalf : Decoded → ℕ → (List ℕ → List Fault) → List Fault
+unlessHalf (whole t) k rules = rules t
+unlessHalf (half p) k rules = otherRule (suc k + p) ∷ []
+
+unfoldable pub decodedFaults : List ℕ → ℕ → (List ℕ → List Fault) → List Fault
+decodedFaults s k rules = unlessHalf (decodedAt s k) k rules
+
+-- no rule for the bytes
+unfoldable pub noRule : List ℕ → List Fault
+noRule t = []
+
+-- a string at k whose bytes are an ID
+unfoldable pub idRule : ℕ → List ℕ → List Fault
+idRule k t = isId t otherwise otherRule k
+
 unfoldable pub idFaults : List ℕ → ℕ → List Fault
-idFaults s k = ofKind (isStringAt s k) k (isId (stringBytes s k) otherwise otherRule k)
+idFaults s k = ofKind (isStringAt s k) k (decodedFaults s k (idRule k))
 
 -- an array, and its elements
 unfoldable pub arrayFaults : (List ℕ → ℕ → List Fault) → List ℕ → ℕ → List Fault
@@ -103,15 +119,20 @@ unfoldable pub isFirst : ℕ → Field → Bool
 isFirst k Absent = false
 isFirst k (First j) = eqb j k
 
--- a member of the object at `at` is the first of its name
-unfoldable pub comesFirst : List ℕ → ℕ → Member → Bool
-comesFirst s at m = isFirst (m .value) (field s at (nameOf s m))
+-- a member of the object at `at`, with its value at k, is the first of its name; one with half a surrogate pair repeats none
+unfoldable pub firstOf : List ℕ → ℕ → ℕ → Decoded → Bool
+firstOf s at k (whole t) = isFirst k (field s at t)
+firstOf s at k (half p) = true
 
--- "House rule: no backslash in a field name of these objects"; "a known field .. repeated (the second name ..)", and each later one
+unfoldable pub comesFirst : List ℕ → ℕ → Member → Bool
+comesFirst s at m = firstOf s at (m .value) (decodedAt s (m .name))
+
+-- "a known field .. repeated (the second name ..)", and each later one: the member's name is t
+unfoldable pub repeatFaults : Owner → List ℕ → ℕ → Member → List ℕ → List Fault
+repeatFaults owner s at m t = (not (isKnown owner t) || isFirst (m .value) (field s at t)) otherwise repeated (m .name)
+
 unfoldable pub nameFaultsOf : Owner → List ℕ → ℕ → Member → List Fault
-nameFaultsOf owner s at m =
-    (isPlain (nameOf s m) otherwise otherRule (m .name)) ++
-    ((not (isKnown owner (nameOf s m)) || comesFirst s at m) otherwise repeated (m .name))
+nameFaultsOf owner s at m = decodedFaults s (m .name) (repeatFaults owner s at m)
 
 -- the field names of the object at `at`
 unfoldable pub nameFaults : Owner → List ℕ → ℕ → List Fault
@@ -121,5 +142,5 @@ nameFaults owner s at = among (nameFaultsOf owner s at) (members s at)
 -- repeated one is not judged; `value` has its faults
 unfoldable pub entryFaults : List ℕ → ℕ → List Fault → Member → List Fault
 entryFaults s at value m =
-    (isId (nameOf s m) otherwise otherRule (m .name)) ++
+    decodedFaults s (m .name) (idRule (m .name)) ++
     elim (comesFirst s at m) [ true ↦ value | false ↦ repeated (m .name) ∷ [] ]

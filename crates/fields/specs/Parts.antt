@@ -1,18 +1,18 @@
 -- What the contracts of private functions cite.
 use Prim.Native.Nat.{ℕ, _<_}
 use mathlib.Core.Path.{_≡_}
-use mathlib.Core.List.{List, [], _∷_, _++_}
+use mathlib.Core.List.{List, [], _∷_}
 use mathlib.Core.Bool.{Bool, true, false, not, _||_, cond}
 use lib.ListN.{length, getD}
 use lib.Dec.{eqb}
 use Rattle.text.specs.Ascii.{ascii}
 use Rattle.text.specs.Bytes.{eqBytes}
-use Rattle.faults.specs.Faults.{Fault, repeated, otherRule, _otherwise_}
+use Rattle.escapes.specs.Decode.{Decoded, isThis}
+use Rattle.faults.specs.Faults.{Fault, repeated, _otherwise_}
 use Rattle.fields.specs.declared.Owner.{Owner}
 use Rattle.fields.specs.declared.Owner.the-variants.{Device, Node, Property}
 use Rattle.fields.specs.declared.Field.{Field}
-use Rattle.fields.specs.Values.{isPlain}
-use Rattle.fields.specs.Fields.{oneMore, stringFaults, idFaults}
+use Rattle.fields.specs.Fields.{oneMore, stringFaults, idFaults, unlessHalf}
 use Rattle.fields.specs.Names.{isKnown}
 use Rattle.fields.specs.Known.{knownName, fieldAt}
 
@@ -64,9 +64,9 @@ unfoldable pub numberOf : List ℕ → ℕ
 numberOf t = search (namesOf (length t)) t
 
 -- a name's number is c: a known one's, 15 for another
-pub record Classified (t : List ℕ) (c : ℕ) : Type 0 where
+pub record Classified (name : Decoded) (c : ℕ) : Type 0 where
   pub low : c < 16
-  pub names : (j : ℕ) → j < 15 → eqBytes t (knownName j) ≡ eqb j c
+  pub names : (j : ℕ) → j < 15 → isThis (knownName j) name ≡ eqb j c
 
 -- the number is that of a known field of such an object
 unfoldable pub isKnownNumber : Owner → ℕ → Bool
@@ -75,11 +75,12 @@ isKnownNumber Device c =
 isKnownNumber Node c = eqb c 0 || (eqb c 1 || eqb c 13)
 isKnownNumber Property c = eqb c 9 || (eqb c 0 || (eqb c 2 || (eqb c 7 || (eqb c 10 || eqb c 11))))
 
--- the faults of the name t at i, of which `first` is the place of the first value; 0 for none before it
-unfoldable pub seenFaults : Owner → List ℕ → ℕ → ℕ → List Fault
-seenFaults owner t first i =
-    (isPlain t otherwise otherRule i) ++
-    ((not (isKnown owner t) || eqb first 0) otherwise repeated i)
+-- the faults of a name at i, of which `first` is the place of the first value; 0 for none before it
+unfoldable pub againFaults : Owner → ℕ → ℕ → List ℕ → List Fault
+againFaults owner first i t = (not (isKnown owner t) || eqb first 0) otherwise repeated i
+
+unfoldable pub seenFaults : Owner → Decoded → ℕ → ℕ → List Fault
+seenFaults owner name first i = unlessHalf name i (againFaults owner first i)
 
 -- ---- one member more
 

@@ -1,5 +1,7 @@
 // The values of a JSON text, and the known fields of its objects: what is told of them, and where they stand. Where a function takes a table of ends, as
 // `json::mark` fills it, its answer is right if the table is.
+use escapes::Decoding;
+use escapes::HalfPair;
 use faults::OTHER_RULE;
 use faults::REPEATED;
 use faults::Told;
@@ -8,15 +10,16 @@ use json::Item;
 use json::Scan;
 ghost use mathlib.Core.Path.{_≡_};
 ghost use mathlib.Core.Bool.{_||_};
-ghost use Prim.Native.Nat.{ℕ, _<_};
+ghost use Prim.Native.Nat.{_<_};
 ghost use lib.ListN.{length};
-ghost use Rattle.faults.specs.Faults.{earlier, least, otherRule, _otherwise_};
+ghost use Rattle.faults.specs.Faults.{earlier, least, _otherwise_};
 ghost use Rattle.json.specs.Ends.{Ends};
-ghost use Rattle.text.specs.Ids.{isId};
+ghost use Rattle.json.specs.Strings.{rawBytes, isPlain};
+ghost use Rattle.escapes.specs.Decode.{whole, decode, alike};
 ghost use Rattle.fields.specs.declared.Owner.the-variants.{Device, Node, Property};
-ghost use Rattle.fields.specs.Values.{valueBytes, stringBytes, isStringAt, isObject, isTrue, isFlag, isNumberAt, isPlain};
+ghost use Rattle.fields.specs.Values.{valueBytes, decodedAt, stringBytes, isStringAt, isObject, isTrue, isFlag, isNumberAt, DecodesAt};
 ghost use Rattle.fields.specs.Parts.{fault, itemFaults, search, names4, names5, names6, names7, names8, names10, numberOf, Classified, isKnownNumber, seenFaults, Saw};
-ghost use Rattle.fields.specs.Fields.{field, isPresent, isFirst, flagIn, stringFaults, idFaults, arrayFaults, kindFaults, fieldFaults, closeAt};
+ghost use Rattle.fields.specs.Fields.{field, isPresent, firstOf, isFirst, flagIn, stringFaults, decodedFaults, noRule, idRule, idFaults, arrayFaults, kindFaults, fieldFaults, closeAt};
 ghost use Rattle.fields.specs.Known.{fieldAt, Knows, IsMember};
 
 // What a known field may hold.
@@ -88,9 +91,9 @@ pub fn value_bytes_by<'a>(s: &'a [u8], k: usize, ends: &[u16]) -> &'a [u8]
     }
 }
 
-// The bytes between the quotes of the string at `k`.
-pub fn string_bytes(s: &[u8], k: usize) -> &[u8]
-    ensures { λ r. ⌜ now r ≡ stringBytes (now (s .entry)) k ⌝ }
+// The bytes between the quotes of the string at `k`, as sent.
+pub fn raw_bytes(s: &[u8], k: usize) -> &[u8]
+    ensures { λ r. ⌜ now r ≡ rawBytes (now (s .entry)) k ⌝ }
 {
     match json::string::string(s, k) {
         Scan::Bad(_) => &s[..0],
@@ -99,8 +102,8 @@ pub fn string_bytes(s: &[u8], k: usize) -> &[u8]
 }
 
 // The same, by the table.
-pub fn string_bytes_by<'a>(s: &'a [u8], k: usize, ends: &[u16]) -> &'a [u8]
-    ensures { λ r. ⌜ (Ends (now (s .entry)) (now (ends .entry)) → now r ≡ stringBytes (now (s .entry)) k) ⌝ }
+pub fn raw_bytes_by<'a>(s: &'a [u8], k: usize, ends: &[u16]) -> &'a [u8]
+    ensures { λ r. ⌜ (Ends (now (s .entry)) (now (ends .entry)) → now r ≡ rawBytes (now (s .entry)) k) ⌝ }
 {
     match json::string_by(s, k, ends) {
         Scan::Bad(_) => &s[..0],
@@ -135,18 +138,27 @@ fn is_flag(s: &[u8], k: usize) -> bool
     json::peek(s, k) == 102
 }
 
-// Whether the bytes have no backslash.
-pub fn is_plain(s: &[u8]) -> bool
-    ensures { λ r. ⌜ r ≡ isPlain (now (s .entry)) ⌝ }
+// The string at `k` decoded to the front of a buffer, if it fits: how many bytes it has, or the place of half a surrogate pair in it.
+pub fn decode_at(s: &[u8], k: usize, out: &mut [u8]) -> Decoding
+    ensures { λ r. ⌜ DecodesAt (now (s .entry)) k (now (out .entry)) (now (out .exit)) r ⌝ }
 {
-    let mut i = 0;
-    while i < s.len() {
-        if s[i] == 92 {
-            return false;
-        }
-        i += 1;
+    match escapes::decode(raw_bytes(s, k), out) {
+        Decoding::Whole(n) => Decoding::Whole(n),
+        Decoding::Half(p) => Decoding::Half(k + 1 + p),
     }
-    true
+}
+
+// What is told of half a surrogate pair in the string at `k`.
+pub fn half_told(s: &[u8], k: usize, ends: &[u16]) -> Told
+    ensures { λ r. ⌜ (Ends (now (s .entry)) (now (ends .entry)) → r ≡ least (decodedFaults (now (s .entry)) k noRule)) ⌝ }
+{
+    if json::is_plain_by(s, k, ends) {
+        return Told::Nothing;
+    }
+    match escapes::half(raw_bytes(s, k)) {
+        HalfPair::Nothing => Told::Nothing,
+        HalfPair::At(p) => Told::At(k + 1 + p, OTHER_RULE),
+    }
 }
 
 // Whether a number begins at `k`.
@@ -173,13 +185,28 @@ pub fn close_of(s: &[u8], at: usize, ends: &[u16]) -> usize
     }
 }
 
+// Whether the string at `j` is what `raw` writes; `plain` tells that `raw` has no backslash.
+fn is_alike(s: &[u8], j: usize, raw: &[u8], plain: bool, ends: &[u16]) -> bool
+    ensures { λ r. ⌜ (Ends (now (s .entry)) (now (ends .entry)) → (plain ≡ isPlain (now (raw .entry))) → r ≡ alike (decode (now (raw .entry))) (decodedAt (now (s .entry)) j)) ⌝ }
+{
+    let other = raw_bytes_by(s, j, ends);
+    if plain {
+        if json::is_plain_by(s, j, ends) {
+            return text::same(other, raw);
+        }
+    }
+    escapes::same_both(raw, other)
+}
+
 // The first member of the object at `at` with the name of the one whose name is at `own` and whose value is at `value`, by the place of its value.
-fn first_named(s: &[u8], at: usize, own: usize, value: usize, name: &[u8], ends: &[u16]) -> Field
-    ensures { λ r. ⌜ (Ends (now (s .entry)) (now (ends .entry)) → now (name .entry) ≡ stringBytes (now (s .entry)) own → IsMember (now (s .entry)) own value → r ≡ field (now (s .entry)) at (now (name .entry))) ⌝ }
+fn first_named(s: &[u8], at: usize, own: usize, value: usize, ends: &[u16]) -> Field
+    ensures { λ r. ⌜ (Ends (now (s .entry)) (now (ends .entry)) → decodedAt (now (s .entry)) own ≡ whole (stringBytes (now (s .entry)) own) → IsMember (now (s .entry)) own value → r ≡ field (now (s .entry)) at (stringBytes (now (s .entry)) own)) ⌝ }
 {
     if json::peek(s, at) != 123 {
         return Field::Absent;
     }
+    let raw = raw_bytes_by(s, own, ends);
+    let plain = json::is_plain_by(s, own, ends);
     let mut i = json::skip(s, at + 1);
     loop {
         if i == own {
@@ -188,7 +215,7 @@ fn first_named(s: &[u8], at: usize, own: usize, value: usize, name: &[u8], ends:
         match json::member_by(s, i, ends) {
             Item::Done => return Field::Absent,
             Item::At(k, _, n) => {
-                if text::same(string_bytes_by(s, i, ends), name) {
+                if is_alike(s, i, raw, plain, ends) {
                     return Field::First(k);
                 }
                 i = n;
@@ -208,12 +235,12 @@ fn is_first(k: usize, f: Field) -> bool
 
 // Whether the member whose name is at `i` and whose value is at `k` is the first of its name in the object at `at`.
 pub fn comes_first(s: &[u8], at: usize, i: usize, k: usize, ends: &[u16]) -> bool
-    ensures { λ r. ⌜ (Ends (now (s .entry)) (now (ends .entry)) → IsMember (now (s .entry)) i k → r ≡ isFirst k (field (now (s .entry)) at (stringBytes (now (s .entry)) i))) ⌝ }
+    ensures { λ r. ⌜ (Ends (now (s .entry)) (now (ends .entry)) → IsMember (now (s .entry)) i k → r ≡ firstOf (now (s .entry)) at k (decodedAt (now (s .entry)) i)) ⌝ }
 {
-    is_first(
-        k,
-        first_named(s, at, i, k, string_bytes_by(s, i, ends), ends),
-    )
+    match half_told(s, i, ends) {
+        Told::At(_, _) => true,
+        Told::Nothing => is_first(k, first_named(s, at, i, k, ends)),
+    }
 }
 
 // A name's number among the known ones of its length.
@@ -313,13 +340,6 @@ fn number_of(t: &[u8]) -> usize
     }
 }
 
-// The same, with what it says of each known name.
-fn classify(t: &[u8]) -> usize
-    ensures { λ r. ⌜ Classified (now (t .entry)) r ⌝ }
-{
-    number_of(t)
-}
-
 fn either(a: bool, b: bool) -> bool
     ensures { λ r. ⌜ r ≡ (a || b) ⌝ }
 {
@@ -377,35 +397,58 @@ fn is_known(owner: Owner, c: usize) -> bool
     }
 }
 
-// What is told of the name t at `i` with the number c, of which `first` is the place of the first value; 0 for none before it.
-fn name_told(owner: Owner, t: &[u8], c: usize, first: usize, i: usize) -> Told
-    ensures { λ r. ⌜ (Classified (now (t .entry)) c → r ≡ least (seenFaults owner (now (t .entry)) first i)) ⌝ }
+// The number of the name at `i`, which has a backslash: 15 if it is none of the known ones.
+fn escaped_number(s: &[u8], i: usize) -> usize
+    ensures { λ r. ⌜ Classified (decodedAt (now (s .entry)) i) r ⌝ }
 {
-    if c >= 15 {
-        if is_plain(t) {
-            return Told::Nothing;
+    let mut name = [0u8; 16];
+    match decode_at(s, i, &mut name) {
+        Decoding::Half(_) => 15,
+        Decoding::Whole(n) => {
+            if n > 16 {
+                return 15;
+            }
+            number_of(text::slice(&name, 0, n))
         }
-        return Told::At(i, OTHER_RULE);
     }
-    if first == 0 {
-        return Told::Nothing;
-    }
-    if is_known(owner, c) {
-        return Told::At(i, REPEATED);
-    }
-    Told::Nothing
 }
 
-// The first of what is told and what is told of that name.
-fn more_told(told: Told, owner: Owner, t: &[u8], c: usize, first: usize, i: usize) -> Told
-    ensures { λ r. ⌜ (Classified (now (t .entry)) c → r ≡ earlier told (least (seenFaults owner (now (t .entry)) first i))) ⌝ }
+// The number of the name at `i`.
+fn name_number(s: &[u8], i: usize, ends: &[u16]) -> usize
+    ensures { λ r. ⌜ (r < 16) × (Ends (now (s .entry)) (now (ends .entry)) → Classified (decodedAt (now (s .entry)) i) r) ⌝ }
 {
+    let c = number_of(raw_bytes_by(s, i, ends));
     if c < 15 {
-        if first == 0 {
-            return told;
-        }
+        return c;
     }
-    faults::earlier(told, name_told(owner, t, c, first, i))
+    if json::is_plain_by(s, i, ends) {
+        return 15;
+    }
+    escaped_number(s, i)
+}
+
+// The first of what is told and what is told of the name at `i` with the number c, of which `first` is the place of the first value; 0 for none before it.
+fn more_told(
+    told: Told,
+    owner: Owner,
+    s: &[u8],
+    c: usize,
+    first: usize,
+    i: usize,
+    ends: &[u16],
+) -> Told
+    ensures { λ r. ⌜ (Ends (now (s .entry)) (now (ends .entry)) → Classified (decodedAt (now (s .entry)) i) c → r ≡ earlier told (least (seenFaults owner (decodedAt (now (s .entry)) i) first i))) ⌝ }
+{
+    if c >= 15 {
+        return faults::earlier(told, half_told(s, i, ends));
+    }
+    if first == 0 {
+        return told;
+    }
+    if is_known(owner, c) {
+        return faults::earlier(told, Told::At(i, REPEATED));
+    }
+    told
 }
 
 // One member more of the name with that number, its value at `k`.
@@ -440,9 +483,8 @@ pub fn known_fields(owner: Owner, s: &[u8], at: usize, ends: &[u16]) -> Known
                 };
             }
             Item::At(k, _, n) => {
-                let t = string_bytes_by(s, i, ends);
-                let c = classify(t);
-                told = more_told(told, owner, t, c, seen[c], i);
+                let c = name_number(s, i, ends);
+                told = more_told(told, owner, s, c, seen[c], i, ends);
                 see(&mut seen, c, k);
                 i = n;
             }
@@ -490,11 +532,33 @@ pub fn string_told(s: &[u8], k: usize) -> Told
     rule_told(is_string(s, k), k, WRONG_KIND)
 }
 
-// What is told of a name that should be an ID.
-pub fn id_name_told(s: &[u8], i: usize, ends: &[u16]) -> Told
-    ensures { λ r. ⌜ (Ends (now (s .entry)) (now (ends .entry)) → r ≡ least (isId (stringBytes (now (s .entry)) i) otherwise otherRule i)) ⌝ }
+// What is told of the string at `k`, which has a backslash and should be an ID.
+fn escaped_id_told(s: &[u8], k: usize) -> Told
+    ensures { λ r. ⌜ r ≡ least (decodedFaults (now (s .entry)) k (idRule k)) ⌝ }
 {
-    rule_told(text::is_id(string_bytes_by(s, i, ends)), i, OTHER_RULE)
+    let mut id = [0u8; 32];
+    match decode_at(s, k, &mut id) {
+        Decoding::Half(p) => Told::At(p, OTHER_RULE),
+        Decoding::Whole(n) => {
+            if n > 32 {
+                return Told::At(k, OTHER_RULE);
+            }
+            rule_told(text::is_id(text::slice(&id, 0, n)), k, OTHER_RULE)
+        }
+    }
+}
+
+// What is told of a string that should be an ID.
+pub fn id_name_told(s: &[u8], k: usize, ends: &[u16]) -> Told
+    ensures { λ r. ⌜ (Ends (now (s .entry)) (now (ends .entry)) → r ≡ least (decodedFaults (now (s .entry)) k (idRule k))) ⌝ }
+{
+    if text::is_id(raw_bytes_by(s, k, ends)) {
+        return Told::Nothing;
+    }
+    if json::is_plain_by(s, k, ends) {
+        return Told::At(k, OTHER_RULE);
+    }
+    escaped_id_told(s, k)
 }
 
 // What is told of a value that should be a string that is an ID.

@@ -1,13 +1,21 @@
 -- What the bytes of a room mean that were written, and that others beside them do not change it.
-use Prim.Native.Nat.{ℕ, _+_, _≤_, min}
+use Prim.Native.Nat.{ℕ, _+_, _-_, _≤_, _<_, min}
 use native.Mathlib.Omega.{arith}
 use mathlib.Core.Path.{_≡_, sym, ap, _∙_}
 use mathlib.Core.Bool.{Bool, true, false, not}
 use mathlib.Core.List.{List, []}
 use mathlib.Core.Option.{Option, none, some}
-use lib.ListN.{length, getD}
+use lib.ListN.{length, getD, length-take}
 use borrow.Author.Tests.{ne-eqb}
 use Rattle.text.specs.Ascii.{ascii}
+use Rattle.text.specs.Bytes.{slice}
+use Rattle.json.specs.Strings.{rawBytes, isPlain}
+use Rattle.json.proofs.Bytes.{split}
+use Rattle.escapes.specs.declared.Decoding.{Decoding}
+use Rattle.escapes.specs.declared.Decoding.the-variants.{Whole, Half}
+use Rattle.escapes.proofs.Theorems.{filled-length}
+use Rattle.fields.specs.Values.{stringBytes, DecodesAt}
+use Rattle.fields.proofs.Decoded.{plain-bytes, decoded-length, decoded-bytes, broken-bytes}
 use Rattle.payload.specs.Formats.{keptBytes}
 use Rattle.payload.specs.declared.Format.{Format}
 use Rattle.payload.specs.declared.Format.the-variants as F
@@ -62,6 +70,27 @@ empty-lane r a e = rw (unset r (a + payloadAt) e, heldAt)
 pub texted-as : {m t t′ m′ : List ℕ} {at most : ℕ} → t ≡ t′ → Texted m t at most m′ → Texted m t′ at most m′
 texted-as {m} {t} {t′} {m′} {at} {most} e w = rw (sym e) w
 
+-- of two that are too long the same is written
+texted-long : {m t t′ m′ : List ℕ} {at most : ℕ} → most ≤ length t → most < length t′ → Texted m t at most m′ → Texted m t′ at most m′
+texted-long p q w = record { within = w .within; size = w .size ∙ omega arith; text = λ h. absurd (omega arith) }
+
+-- a string of the text
+module _ (s : List ℕ) (k : ℕ) {m m′ : List ℕ} {at most : ℕ} where
+  pub texted-plain : {raw : List ℕ} {b : Bool} → raw ≡ rawBytes s k → b ≡ isPlain raw → b ≡ true → Texted m raw at most m′ → Texted m (stringBytes s k) at most m′
+  texted-plain x p e = texted-as (x ∙ sym (plain-bytes s k (ap isPlain (sym x) ∙ (sym p ∙ e))))
+
+  module _ {before after : List ℕ} {r : Decoding} (w : DecodesAt s k before after r) where
+    pub texted-half : {p : ℕ} → r ≡ Half p → Texted m [] at most m′ → Texted m (stringBytes s k) at most m′
+    texted-half q = texted-as (sym (broken-bytes s k w q))
+
+    pub texted-whole : {n : ℕ} {t : List ℕ} → r ≡ Whole n → length before ≡ 64 → most ≤ 64 → t ≡ slice after 0 n → Texted m t at most m′ → Texted m (stringBytes s k) at most m′
+    texted-whole {n} {t} q l h x y = split n 64
+        (λ g. texted-as (decoded-bytes s k w q (omega (arith, l)) x) y)
+        (λ g.
+        let front = ap length x ∙ length-take (n - 0) after in
+        let whole-length = ap length (w .buffer) ∙ filled-length (stringBytes s k) before in
+        texted-long (omega (arith, front, whole-length, l)) (omega (arith, decoded-length s k w q)) y)
+
 module _ (r : List ℕ) (at most : ℕ) where
   missing : isSet r at ≡ false → optionalAt r at most ≡ none
   unfolding optionalAt
@@ -71,12 +100,10 @@ module _ (r : List ℕ) (at most : ℕ) where
   unfolding optionalAt
   present t e q = rw (e, optionalAt) (ap some q)
 
-pub optional-is : {m t m′ : List ℕ} (at most : ℕ) (o : Option (List ℕ)) → 32 ≤ most → t ≡ textOf o → Texted m t at most m′ → FitsIdOrNone o → optionalAt m′ at most ≡ o
+pub optional-is : {m m′ : List ℕ} (at most : ℕ) (o : Option (List ℕ)) → 32 ≤ most → Texted m (textOf o) at most m′ → FitsIdOrNone o → optionalAt m′ at most ≡ o
 unfolding textOf
-optional-is {m} {t} {m′} at most none h e w f = missing m′ at most (unset m′ at (w .size ∙ ap (λ (x : List ℕ). min (length x) most) e ∙ omega arith))
-optional-is {m} {t} {m′} at most (some u) h e w f =
-    let l : length t ≡ length u = ap length e in
-    present m′ at most u (is-set m′ at (omega (arith, w .size, f .some))) (w .text (omega (arith, f .short)) ∙ e)
+optional-is {m} {m′} at most none h w f = missing m′ at most (unset m′ at (w .size ∙ omega arith))
+optional-is {m} {m′} at most (some u) h w f = present m′ at most u (is-set m′ at (omega (arith, w .size, f .some))) (w .text (omega (arith, f .short)))
 
 -- the kept format
 module _ (t : List ℕ) {k : Format} where

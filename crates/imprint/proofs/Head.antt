@@ -19,12 +19,12 @@ use Rattle.imprint.proofs.Writes.{Numbered, numbered}
 use Rattle.imprint.proofs.Fields.{alike-below, wider, then, is-one, optional-is}
 
 -- root and parent
-module _ (m₀ m₁ m₂ s t₁ t₂ : List ℕ) (root parent : Field) (l : length m₀ ≡ roomSize) (p₁ : t₁ ≡ textOf (textIn s root)) (w₁ : Texted m₀ t₁ rootAt idMost m₁) (p₂ : t₂ ≡ textOf (textIn s parent)) (w₂ : Texted m₁ t₂ parentAt idMost m₂) where
+module _ (m₀ m₁ m₂ s : List ℕ) (root parent : Field) (l : length m₀ ≡ roomSize) (w₁ : Texted m₀ (textOf (textIn s root)) rootAt idMost m₁) (w₂ : Texted m₁ (textOf (textIn s parent)) parentAt idMost m₂) where
   pub family : Family m₀ s root parent m₂
   family = record {
     within = then (wider (w₁ .within) rootAt versionAt (omega arith) (omega arith)) (wider (w₂ .within) rootAt versionAt (omega arith) (omega arith));
-    rooted = λ f. optional-alike idMost (alike-below (w₂ .within) rootAt 33 (omega arith) (omega (arith, w₁ .within .kept))) ∙ optional-is rootAt idMost (textIn s root) (omega arith) p₁ w₁ f;
-    parented = λ f. optional-is parentAt idMost (textIn s parent) (omega arith) p₂ w₂ f;
+    rooted = λ f. optional-alike idMost (alike-below (w₂ .within) rootAt 33 (omega arith) (omega (arith, w₁ .within .kept))) ∙ optional-is rootAt idMost (textIn s root) (omega arith) w₁ f;
+    parented = λ f. optional-is parentAt idMost (textIn s parent) (omega arith) w₂ f;
   }
 
 only-set : (m : List ℕ) (k v a b : ℕ) → a ≤ k → k < b → WritesWithin m a b (set m k v)

@@ -13,7 +13,7 @@ use Rattle.memory.specs.Layout.{roomSize}
 use Rattle.memory.proofs.Lists.{tab-ext}
 use Rattle.payload.specs.Datatypes.{codeOf, datatypeAt}
 use Rattle.payload.proofs.Judging.{code-back}
-use Rattle.fields.specs.Values as values
+use Rattle.fields.specs.Values.{stringBytes}
 use Rattle.fields.specs.Fields.{textIn}
 use Rattle.payload.specs.Formats.{keptBytes}
 use Rattle.properties.specs.declared.Entry.{Entry}
@@ -33,11 +33,11 @@ use Rattle.imprint.proofs.Fields.{alike-below, wider, then, is-flag, em
 
 -- ---- one record: four writes, one after the other
 
-module _ (m₀ m₁ m₂ m₃ m₄ s t₁ t₂ t₃ : List ℕ) (e : Entry) (a code : ℕ) (l : a + recordSize ≤ length m₀) (z : Blank m₀ a)
-    (p₁ : t₁ ≡ values.stringBytes s (e .node)) (w₁ : Texted m₀ t₁ (a + nodeAt) idMost m₁)
-    (p₂ : t₂ ≡ values.stringBytes s (e .id)) (w₂ : Texted m₁ t₂ (a + propertyAt) idMost m₂)
+module _ (m₀ m₁ m₂ m₃ m₄ s : List ℕ) (e : Entry) (a code : ℕ) (l : a + recordSize ≤ length m₀) (z : Blank m₀ a)
+    (w₁ : Texted m₀ (stringBytes s (e .node)) (a + nodeAt) idMost m₁)
+    (w₂ : Texted m₁ (stringBytes s (e .id)) (a + propertyAt) idMost m₂)
     (q : code ≡ codeOf (e .datatype)) (w₃ : Traits m₂ a code (flag (e .settable)) (flag (e .retained)) m₃)
-    (p₃ : t₃ ≡ textOf (textIn s (e .format))) (w₄ : Texted m₃ (textOf (keptBytes t₃ (e .kept))) (a + formatAt) formatMost m₄) where
+    (w₄ : Texted m₃ (textOf (keptBytes (textOf (textIn s (e .format))) (e .kept))) (a + formatAt) formatMost m₄) where
   long₁ : length m₁ ≡ length m₀
   long₁ = w₁ .within .kept
 
@@ -53,18 +53,18 @@ module _ (m₀ m₁ m₂ m₃ m₄ s t₁ t₂ t₃ : List ℕ) (e : Entry) (a c
       (then (wider (w₂ .within) a (a + recordSize) (omega arith) (omega arith))
       (then (wider (w₃ .within) a (a + recordSize) (omega arith) (omega arith)) (wider (w₄ .within) a (a + recordSize) (omega arith) (omega arith))))
 
-  node-is : length t₁ ≤ idMost → textAt m₄ (a + nodeAt) idMost ≡ values.stringBytes s (e .node)
+  node-is : length (stringBytes s (e .node)) ≤ idMost → textAt m₄ (a + nodeAt) idMost ≡ stringBytes s (e .node)
   node-is h =
       text-alike idMost (alike-below (w₄ .within) (a + nodeAt) 33 (omega arith) (omega (arith, long₃)))
       ∙ text-alike idMost (alike-below (w₃ .within) (a + nodeAt) 33 (omega arith) (omega (arith, long₂)))
       ∙ text-alike idMost (alike-below (w₂ .within) (a + nodeAt) 33 (omega arith) (omega (arith, long₁)))
-      ∙ w₁ .text h ∙ p₁
+      ∙ w₁ .text h
 
-  id-is : length t₂ ≤ idMost → textAt m₄ (a + propertyAt) idMost ≡ values.stringBytes s (e .id)
+  id-is : length (stringBytes s (e .id)) ≤ idMost → textAt m₄ (a + propertyAt) idMost ≡ stringBytes s (e .id)
   id-is h =
       text-alike idMost (alike-below (w₄ .within) (a + propertyAt) 33 (omega arith) (omega (arith, long₃)))
       ∙ text-alike idMost (alike-below (w₃ .within) (a + propertyAt) 33 (omega arith) (omega (arith, long₂)))
-      ∙ w₂ .text h ∙ p₂
+      ∙ w₂ .text h
 
   code-is : datatypeAt (getD m₄ (a + datatypeCodeAt) 0) ≡ e .datatype
   code-is = ap datatypeAt (w₄ .within .below (a + datatypeCodeAt) (omega arith) ∙ w₃ .code ∙ q) ∙ code-back (e .datatype)
@@ -75,9 +75,6 @@ module _ (m₀ m₁ m₂ m₃ m₄ s t₁ t₂ t₃ : List ℕ) (e : Entry) (a c
   retained-is : isSet m₄ (a + retainedAt) ≡ e .retained
   retained-is = is-flag m₄ (a + retainedAt) (e .retained) (w₄ .within .below (a + retainedAt) (omega arith) ∙ w₃ .retained)
 
-  format-is : length (textOf (keptBytes t₃ (e .kept))) ≤ formatMost → textAt m₄ (a + formatAt) formatMost ≡ textOf (keptBytes (textOf (textIn s (e .format))) (e .kept))
-  format-is h = w₄ .text h ∙ ap (λ (t : List ℕ). textOf (keptBytes t (e .kept))) p₃
-
   zeros : (i : ℕ) → a + lanesAt ≤ i → getD m₄ i 0 ≡ 0
   zeros i h = w₄ .within .above i (omega arith) ∙ w₃ .within .above i (omega arith) ∙ w₂ .within .above i (omega arith) ∙ w₁ .within .above i (omega arith) ∙ z i (omega arith)
 
@@ -87,9 +84,9 @@ module _ (m₀ m₁ m₂ m₃ m₄ s t₁ t₂ t₃ : List ℕ) (e : Entry) (a c
   written-is : FitsProperty (content s e) → recordOf m₄ a ≡ bare (content s e)
   unfolding recordOf declaredAt content
   written-is f =
-      let node = node-is (omega (arith, ap length p₁, f .node)) in
-      let id = id-is (omega (arith, ap length p₂, f .id)) in
-      let format = format-is (omega (arith, ap (λ (t : List ℕ). length (textOf (keptBytes t (e .kept)))) p₃, f .format)) in
+      let node = node-is (f .node) in
+      let id = id-is (f .id) in
+      let format = w₄ .text (f .format) in
       let value = lane-is lanesAt (omega arith) in
       let target = lane-is (lanesAt + laneSize) (omega arith) in
       let asked = lane-is (lanesAt + (laneSize + laneSize)) (omega arith) in

@@ -13,6 +13,7 @@ use device::RETAINED;
 use device::ROOT;
 use device::SETTABLE;
 use device::VERSION;
+use escapes::Decoding;
 use fields::Field;
 use memory::ROOM;
 use payload::Format;
@@ -21,6 +22,7 @@ use properties::Entry;
 ghost use mathlib.Core.Path.{_≡_};
 ghost use Prim.Native.Nat.{suc, _+_, _≤_, _<_, min};
 ghost use lib.ListN.{length};
+ghost use Rattle.fields.specs.Values.{stringBytes};
 ghost use Rattle.fields.specs.Fields.{textIn};
 ghost use Rattle.payload.specs.Formats.{keptBytes};
 ghost use Rattle.properties.specs.Property.{textOf};
@@ -61,27 +63,53 @@ fn put_text(room: &mut [u8], at: usize, t: &[u8], most: u8)
     }
 }
 
-// The string that a field holds, or the empty string.
-fn text_in(s: &[u8], f: Field) -> &[u8]
-    ensures { λ r. ⌜ now r ≡ textOf (textIn (now (s .entry)) f) ⌝ }
+// The same of the string at `k`, which has a backslash.
+fn put_escaped(room: &mut [u8], at: usize, s: &[u8], k: usize, most: u8)
+    requires { ⌜ (at + suc most ≤ length (now room)) × (most ≤ 64) ⌝ }
+    ensures { λ _. ⌜ Texted (now (room .entry)) (stringBytes (now (s .entry)) k) at most (now (room .exit)) ⌝ }
 {
-    match f {
-        Field::Absent => &s[..0],
-        Field::First(k) => fields::string_bytes(s, k),
+    let mut bytes = [0u8; 64];
+    match fields::decode_at(s, k, &mut bytes) {
+        Decoding::Half(_) => put_text(room, at, &s[..0], most),
+        Decoding::Whole(n) => put_text(room, at, text::slice(&bytes, 0, n), most),
     }
 }
 
-// What is kept of the format t.
-fn put_format(room: &mut [u8], at: usize, t: &[u8], kept: Format)
+// The same of the string at `k`.
+fn put_string(room: &mut [u8], at: usize, s: &[u8], k: usize, most: u8)
+    requires { ⌜ (at + suc most ≤ length (now room)) × (most ≤ 64) ⌝ }
+    ensures { λ _. ⌜ Texted (now (room .entry)) (stringBytes (now (s .entry)) k) at most (now (room .exit)) ⌝ }
+{
+    let raw = fields::raw_bytes(s, k);
+    if escapes::is_plain(raw) {
+        put_text(room, at, raw, most);
+    } else {
+        put_escaped(room, at, s, k, most);
+    }
+}
+
+// The same of the string that a field holds, or of the empty string.
+fn put_field(room: &mut [u8], at: usize, s: &[u8], f: Field, most: u8)
+    requires { ⌜ (at + suc most ≤ length (now room)) × (most ≤ 64) ⌝ }
+    ensures { λ _. ⌜ Texted (now (room .entry)) (textOf (textIn (now (s .entry)) f)) at most (now (room .exit)) ⌝ }
+{
+    match f {
+        Field::Absent => put_text(room, at, &s[..0], most),
+        Field::First(k) => put_string(room, at, s, k, most),
+    }
+}
+
+// What is kept of the format that a field holds.
+fn put_format(room: &mut [u8], at: usize, s: &[u8], f: Field, kept: Format)
     requires { ⌜ at + suc formatMost ≤ length (now room) ⌝ }
-    ensures { λ _. ⌜ Texted (now (room .entry)) (textOf (keptBytes (now (t .entry)) kept)) at formatMost (now (room .exit)) ⌝ }
+    ensures { λ _. ⌜ Texted (now (room .entry)) (textOf (keptBytes (textOf (textIn (now (s .entry)) f)) kept)) at formatMost (now (room .exit)) ⌝ }
 {
     match kept {
-        Format::Bad => put_text(room, at, &t[..0], FORMAT_MOST),
-        Format::AsGiven => put_text(room, at, t, FORMAT_MOST),
+        Format::Bad => put_text(room, at, &s[..0], FORMAT_MOST),
+        Format::AsGiven => put_field(room, at, s, f, FORMAT_MOST),
         Format::Colon => put_text(room, at, b":", FORMAT_MOST),
         Format::FalseTrue => put_text(room, at, b"false,true", FORMAT_MOST),
-        Format::NotKept => put_text(room, at, &t[..0], FORMAT_MOST),
+        Format::NotKept => put_text(room, at, &s[..0], FORMAT_MOST),
     }
 }
 
@@ -109,10 +137,10 @@ fn put_record(room: &mut [u8], at: usize, s: &[u8], e: Entry)
     let d = e.datatype;
     let f = e.format;
     let kept = e.kept;
-    put_text(room, at + NODE, fields::string_bytes(s, e.node), ID_MOST);
-    put_text(room, at + PROPERTY, fields::string_bytes(s, e.id), ID_MOST);
+    put_string(room, at + NODE, s, e.node, ID_MOST);
+    put_string(room, at + PROPERTY, s, e.id, ID_MOST);
     put_traits(room, at, payload::datatype_code(d), e.settable, e.retained);
-    put_format(room, at + FORMAT, text_in(s, f), kept);
+    put_format(room, at + FORMAT, s, f, kept);
 }
 
 // A record for each of the first n properties.
@@ -134,8 +162,8 @@ fn put_family(room: &mut [u8], s: &[u8], root: Field, parent: Field)
     requires { ⌜ length (now room) ≡ roomSize ⌝ }
     ensures { λ _. ⌜ Family (now (room .entry)) (now (s .entry)) root parent (now (room .exit)) ⌝ }
 {
-    put_text(room, ROOT, text_in(s, root), ID_MOST);
-    put_text(room, PARENT, text_in(s, parent), ID_MOST);
+    put_field(room, ROOT, s, root, ID_MOST);
+    put_field(room, PARENT, s, parent, ID_MOST);
 }
 
 // That there is a description, its root, parent and version, and how many properties it has.

@@ -3,11 +3,14 @@ use Prim.Native.Nat.{ℕ, suc, _+_, _≤_, _<_}
 use native.Mathlib.Omega.{arith}
 use mathlib.Core.Path.{_≡_, refl, sym, ap, _∙_, subst}
 use mathlib.Core.List.{List}
+use mathlib.Core.Bool.{true}
 use mathlib.Core.Logic.{_⊎_, inl, inr}
 use lib.ListN.{length, getD, set, length-set, List·getD-eq-default}
+use lib.Dec.{eqb}
 use lib.Seq.{getD-set-same, getD-set-other}
+use borrow.Author.Tests.{eqb-true, eqb-false}
 use Rattle.json.specs.Bytes.{byte, ws, EndsWithin, Skipped, Scanned}
-use Rattle.json.specs.Strings.{stringAt}
+use Rattle.json.specs.Strings.{stringAt, rawBytes, isPlain}
 use Rattle.json.specs.Value.{colon, keyAt, valueAt}
 use Rattle.json.specs.Members.{nextAt, itemAt, memberAt, elementAt, ItemLies}
 use Rattle.json.specs.Ends.{Ends, ScannedIf, GotItemIf}
@@ -16,7 +19,8 @@ use Rattle.json.specs.declared.Scan.{Scan}
 use Rattle.json.specs.declared.Scan.the-variants.{End, Bad}
 use Rattle.json.specs.declared.Item.{Item}
 use Rattle.json.specs.declared.Item.the-variants.{At, Done}
-use Rattle.json.proofs.Bytes.{split}
+use Rattle.json.proofs.Bytes.{split, both}
+use Rattle.json.proofs.Strings.{Reading, string-not, raw-none}
 use Rattle.json.proofs.Raise.{raise}
 use Rattle.json.proofs.Items.{Inv}
 use Rattle.json.proofs.Values.{string-quote, value-quote, key-bad, key-goes}
@@ -44,20 +48,24 @@ noted-set {at} {e} {r} {a} h q = record { at-most = λ k. split k at (λ x. spli
     other : (k : ℕ) → (k ≡ at → ⊥) → (getD (set a at e) k 0 ≡ getD a k 0) ⊎ ((k ≡ at) × (r ≡ End (getD (set a at e) k 0)))
     other k z = inl (getD-set-other a at k e 0 z)
 
--- what was scanned is a value, and its end is noted
-noted-right : {at : ℕ} {s a b : List ℕ} {r : Scan} → ((e : ℕ) → r ≡ End e → valueAt 16 s at ≡ End e) → Noted at r a b → Ends s a → Ends s b
-noted-right {at} {s} {a} {b} {r} w n e = record { tells = λ k l m. go k l m (n .at-most k) }
+-- what was scanned is a value, and no string with a backslash, and its end is noted
+noted-right : {at : ℕ} {s a b : List ℕ} {r : Scan} → ((e : ℕ) → r ≡ End e → valueAt 16 s at ≡ End e) → (byte s at ≡ 34 → isPlain (rawBytes s at) ≡ true) → Noted at r a b → Ends s a → Ends s b
+noted-right {at} {s} {a} {b} {r} w p n e = record { tells = λ k l m. go k l m (n .at-most k); plain = λ k l m q. same k l m q (n .at-most k) }
   where
+    same : (k : ℕ) → suc k < getD b k 0 → getD b k 0 ≤ length s → byte s k ≡ 34 → (getD b k 0 ≡ getD a k 0) ⊎ ((k ≡ at) × (r ≡ End (getD b k 0))) → isPlain (rawBytes s k) ≡ true
+    same k l m y (inl q) = e .plain k (omega arith) (omega arith) y
+    same k l m y (inr q) = ap (λ (i : ℕ). isPlain (rawBytes s i)) (q .0) ∙ p (sym (ap (byte s) (q .0)) ∙ y)
+
     go : (k : ℕ) → suc k < getD b k 0 → getD b k 0 ≤ length s → (getD b k 0 ≡ getD a k 0) ⊎ ((k ≡ at) × (r ≡ End (getD b k 0))) → valueAt 16 s k ≡ End (getD b k 0)
     go k l m (inl q) = e .tells k (omega arith) (omega arith) ∙ ap End (sym q)
     go k l m (inr q) = ap (valueAt 16 s) (q .0) ∙ w (getD b k 0) (q .1)
 
 module _ {at : ℕ} {s a b : List ℕ} {r : Scan} where
-  pub noted-kept : {d : ℕ} → Scanned (valueAt d s at) at (length s) r → Noted at r a b → Kept d s a b
-  noted-kept {d} w n = record { keeps = λ h e. noted-right (λ x q. raise s d 16 at x h (sym (w .is) ∙ q)) n e }
+  pub noted-kept : {d k : ℕ} → byte s at ≡ k → 34 < k → Scanned (valueAt d s at) at (length s) r → Noted at r a b → Kept d s a b
+  noted-kept {d} y g w n = record { keeps = λ h e. noted-right (λ x q. raise s d 16 at x h (sym (w .is) ∙ q)) (λ z. absurd (omega arith)) n e }
 
-  pub noted-string : Scanned (stringAt s at) at (length s) r → Noted at r a b → Kept 0 s a b
-  noted-string w n = record { keeps = λ h e. noted-right (λ x q. let p = sym (w .is) ∙ q in sym (value-quote 16 s at (string-quote s at x p)) ∙ p) n e }
+  pub noted-string : isPlain (rawBytes s at) ≡ true → Scanned (stringAt s at) at (length s) r → Noted at r a b → Kept 0 s a b
+  noted-string y w n = record { keeps = λ h e. noted-right (λ x q. let p = sym (w .is) ∙ q in sym (value-quote 16 s at (string-quote s at x p)) ∙ p) (λ _. y) n e }
 
 -- ---- a fresh table
 
@@ -81,12 +89,23 @@ pub cleared : {n i m : ℕ} {ends₀ ends : List ℕ} → Least n (length ends�
 cleared {n} {i} {m} {ends₀} {ends} l h v = record { low = λ k x. split (length ends₀) k (λ y. let z = v .size in let w = List·getD-eq-default ends 0 {n = k} (omega arith) in omega arith) (λ y. let z = l .below k x y in v .done k (omega arith)) }
 
 cleared-ends : {s ends : List ℕ} → Cleared (length s) ends → Ends s ends
-cleared-ends c = record { tells = λ k l m. let h = c .low k (omega arith) in absurd (omega arith) }
+cleared-ends c = record {
+  tells = λ k l m. let h = c .low k (omega arith) in absurd (omega arith);
+  plain = λ k l m _. let h = c .low k (omega arith) in absurd (omega arith);
+}
 
 pub marked-kept : {s a b : List ℕ} → Cleared (length s) a → Kept 16 s a b → Ends s b
 marked-kept c k = k .keeps (omega arith) (cleared-ends c)
 
--- the loops' invariant, with the table
+-- ---- the loops' invariants, with the table
+
+-- over the runs of a string
+pub record Marking (s : List ℕ) (at : ℕ) (ends₀ ends : List ℕ) (i : ℕ) : Type 0 where
+  pub reading : Reading s at i
+  pub kept : Kept 0 s ends₀ ends
+  pub size : length ends ≡ length ends₀
+
+-- over items
 pub record Walk (item : ℕ → Scan) (close : ℕ) (s : List ℕ) (at : ℕ) (want : Scan) (d : ℕ) (ends₀ ends : List ℕ) (i : ℕ) : Type 0 where
   pub inv : Inv item close s at want i
   pub kept : Kept d s ends₀ ends
@@ -114,6 +133,17 @@ module _ {s ends : List ℕ} {k e : ℕ} (t : Told ends k (length s) e) (f : e �
 
   pub by-string : byte s k ≡ 34 → ScannedIf (Ends s ends) (stringAt s k) k (length s) (End e)
   by-string b = record { is = λ v. sym (value-quote 16 s k b ∙ tells-value v); lies = told-lies t f }
+
+  -- a string of which the table tells has no backslash, and where no string stands there is none
+  pub by-plain : Ends s ends → true ≡ isPlain (rawBytes s k)
+  by-plain v =
+      let q = t .entry f in
+      let x = q .0 in
+      let l = q .1 in
+      let m = q .2 in
+      both (eqb (byte s k) 34)
+      (λ b. sym (v .plain k (omega arith) (omega arith) (eqb-true _ 34 b)))
+      (λ b. raw-none s k (string-not s k refl (eqb-false _ 34 b)) refl)
 
 -- an answer that does not hang on the table
 pub anyhow : {G : Type 0} {want : Scan} {lo hi : ℕ} {r : Scan} → Scanned want lo hi r → ScannedIf G want lo hi r

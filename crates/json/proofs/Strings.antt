@@ -1,20 +1,20 @@
 -- Laws of strings.
-use Prim.Native.Nat.{ℕ, _+_, _-_, _≤_, _<_}
+use Prim.Native.Nat.{ℕ, zero, suc, _+_, _-_, _≤_, _<_}
 use native.Mathlib.Numerals.{add-one}
 use native.Mathlib.Omega.{arith}
 use mathlib.Core.Path.{_≡_, refl, sym, ap, subst, _∙_}
-use mathlib.Core.List.{List}
+use mathlib.Core.List.{List, [], _∷_}
 use mathlib.Core.Logic.{_⊎_, inl, inr}
 use mathlib.Core.Bool.{Bool, true, false, not, _&&_, true≢false}
-use lib.ListN.{length, getD, drop, drop-of-length-le}
+use lib.ListN.{length, getD, take, drop, drop-of-length-le}
 use lib.Dec.{eqb, leb}
-use lib.Seq.{drop-cons}
-use borrow.Author.Tests.{ne-eqb, eq-eqb, le-leb, leb-true, eqb-false, not-true}
+use lib.Seq.{drop-cons, getD-drop}
+use borrow.Author.Tests.{ne-eqb, eq-eqb, le-leb, leb-true, eqb-true, eqb-false, not-true}
 use Rattle.abnf.specs.Accepts.{inRange}
 use Rattle.abnf.proofs.Steps.{in-range}
 use Rattle.json.specs.Bytes.{byte, Scanned}
-use Rattle.json.specs.Strings.{isHex, isEscape, plainStep, escapeStep, hexStep, textStep, text, stringAt}
-use Rattle.json.specs.Parts.{isPlain, Run, RunOver, Escaped}
+use Rattle.json.specs.Strings.{isHex, isEscape, plainStep, escapeStep, hexStep, textStep, text, stringAt, rawBytes, isPlain}
+use Rattle.json.specs.Parts.{standsForItself, Run, RunOver, Escaped}
 use Rattle.json.specs.declared.Scan.{Scan}
 use Rattle.json.specs.declared.Scan.the-variants.{End, Bad}
 use Rattle.json.specs.declared.string.State.{State}
@@ -117,59 +117,63 @@ plain-yes b l e =
     plain-byte b (leb-true 32 b (and-left _ (not (eqb b 34)) f)) l (eqb-false b 34 (not-true _ (and-right (leb 32 b) _ f))) (eqb-false b 92 (not-true _ (and-right (leb 32 b && not (eqb b 34)) _ e)))
 
 module _ (b : ℕ) where
-  stands : inRange 32 255 b ≡ true → (b ≡ 34 → ⊥) → (b ≡ 92 → ⊥) → true ≡ isPlain b
-  unfolding isPlain
+  stands : inRange 32 255 b ≡ true → (b ≡ 34 → ⊥) → (b ≡ 92 → ⊥) → true ≡ standsForItself b
+  unfolding standsForItself
   stands r f g = rw (r, ne-eqb b 34 f, ne-eqb b 92 g)
 
-  pub stands-yes : 32 ≤ b → b < 256 → (b ≡ 34 → ⊥) → (b ≡ 92 → ⊥) → true ≡ isPlain b
+  pub stands-yes : 32 ≤ b → b < 256 → (b ≡ 34 → ⊥) → (b ≡ 92 → ⊥) → true ≡ standsForItself b
   stands-yes h l f g = stands (in-range 32 255 b h (omega arith)) f g
 
-  pub stands-quote : b ≡ 34 → false ≡ isPlain b
-  unfolding isPlain
+  pub stands-quote : b ≡ 34 → false ≡ standsForItself b
+  unfolding standsForItself
   stands-quote e = rw e
 
-  pub stands-backslash : b ≡ 92 → false ≡ isPlain b
-  unfolding isPlain
+  pub stands-backslash : b ≡ 92 → false ≡ standsForItself b
+  unfolding standsForItself
   stands-backslash e = rw e
 
-  pub stands-low : b < 34 → leb 32 b ≡ isPlain b
-  unfolding isPlain
+  pub stands-low : b < 34 → leb 32 b ≡ standsForItself b
+  unfolding standsForItself
   stands-low h = both (leb 32 b) (λ e. rw (e, le-leb b 255 (omega arith), ne-eqb b 34 (λ q. omega arith), ne-eqb b 92 (λ q. omega arith))) (λ e. rw e)
 
-  pub plain-of : isPlain b ≡ true → plainStep b ≡ Go Plain
-  unfolding isPlain
+  plain-none : plainStep b ≡ Go Plain → b ≡ 92 → ⊥
+  unfolding plainStep
+  plain-none e q = let f : plainStep b ≡ Go Escape = rw q in let z : _≡_ {A = ℕ} 0 1 = cc in omega arith
+
+  pub plain-of : standsForItself b ≡ true → plainStep b ≡ Go Plain
+  unfolding standsForItself
   plain-of e =
       let g = and-right (inRange 32 255 b) _ e in
       sym (plain-plain b (eqb-false b 34 (not-true _ (and-left (not (eqb b 34)) _ g))) (eqb-false b 92 (not-true _ (and-right (not (eqb b 34)) _ g))) (and-left (inRange 32 255 b) _ e))
 
-  over-stuck : isPlain b ≡ false → (b ≡ 34 → ⊥) → (b ≡ 92 → ⊥) → plainStep b ≡ Stuck
+  over-stuck : standsForItself b ≡ false → (b ≡ 34 → ⊥) → (b ≡ 92 → ⊥) → plainStep b ≡ Stuck
   over-stuck e f g = both (inRange 32 255 b) (λ r. absurd (true≢false (stands r f g ∙ e))) (λ r. sym (plain-stuck b f g r))
 
-pub over-end : (s : List ℕ) (i : ℕ) → length s ≤ i → isPlain (byte s i) ≡ false
-unfolding isPlain
+pub over-end : (s : List ℕ) (i : ℕ) → length s ≤ i → standsForItself (byte s i) ≡ false
+unfolding standsForItself
 over-end s i h = rw (byte-out s i h)
 
 -- ---- runs of such bytes
 
 pub run-none : (s : List ℕ) (i : ℕ) → i ≤ length s → Run s i i
-run-none s i h = record { from = omega arith; to = h; same = refl }
+run-none s i h = record { from = omega arith; to = h; plain = λ k a l. absurd (omega arith); same = refl }
 
 pub run-then : {s : List ℕ} {i j k : ℕ} → Run s i j → Run s j k → Run s i k
-run-then v w = record { from = omega (arith, v .from, w .from); to = w .to; same = w .same ∙ v .same }
+run-then {s} {i} {j} v w = record { from = omega (arith, v .from, w .from); to = w .to; plain = λ k a l. split j k (λ h. w .plain k h l) (λ h. v .plain k a h); same = w .same ∙ v .same }
 
 pub run-to : {s : List ℕ} {i j k : ℕ} → j ≡ k → Run s i j → Run s i k
 run-to {s} {i} e v = subst (Run s i) e v
 
 pub run-one : (s : List ℕ) (i j b : ℕ) → i + 1 ≡ j → i < length s → b ≡ getD s i 0 → plainStep b ≡ Go Plain → Run s i j
 unfolding textStep
-run-one s i j b q h p e = run-to q (record { from = omega arith; to = omega arith; same = sym (text-go Plain Plain s i (ap plainStep (sym (p ∙ byte-in s i h)) ∙ e)) })
+run-one s i j b q h p e = run-to q (record { from = omega arith; to = omega arith; plain = λ k a l y. let z : k ≡ i = omega arith in plain-none b e (p ∙ byte-in s i h ∙ sym (ap (byte s) z) ∙ y); same = sym (text-go Plain Plain s i (ap plainStep (sym (p ∙ byte-in s i h)) ∙ e)) })
 
 -- two tests, of one part and of the next
 pub run-both : {s : List ℕ} {i j k : ℕ} (a b : Bool) → (a ≡ true → Run s i j) → (b ≡ true → Run s j k) → a && b ≡ true → Run s i k
 run-both a b f g e = run-then (f (and-left a b e)) (g (and-right a b e))
 
-pub run-over : {s : List ℕ} {at i b : ℕ} → Run s at i → i < length s → b ≡ getD s i 0 → isPlain b ≡ false → RunOver s at i
-run-over {s} {at} {i} v h p e = record { run = v; over = ap isPlain (sym (p ∙ byte-in s i h)) ∙ e }
+pub run-over : {s : List ℕ} {at i b : ℕ} → Run s at i → i < length s → b ≡ getD s i 0 → standsForItself b ≡ false → RunOver s at i
+run-over {s} {at} {i} v h p e = record { run = v; over = ap standsForItself (sym (p ∙ byte-in s i h)) ∙ e }
 
 pub run-end : {s : List ℕ} {at i : ℕ} → Run s at i → length s ≤ i → RunOver s at i
 run-end {s} {at} {i} v h = record { run = v; over = over-end s i h }
@@ -239,11 +243,74 @@ is-other u e f = (λ q. absurd (true≢false (sym q)), λ _ p. f (sym e ∙ p))
 pub escaped : {s : List ℕ} {at : ℕ} {r : Scan} (q : Scan) → Escaped s at r → r ≡ q → Escaped s at q
 escaped {s} {at} q w e = subst (Escaped s at) e w
 
+-- ---- whether bytes have a backslash among them
+
+none-plain : (l : List ℕ) (n : ℕ) → ((i : ℕ) → i < n → getD l i 256 ≡ 92 → ⊥) → isPlain (take n l) ≡ true
+unfolding isPlain
+none-plain l zero f = refl
+none-plain [] (suc n) f = refl
+none-plain (b ∷ l) (suc n) f = rw (ne-eqb b 92 (f 0 (omega arith)), isPlain) (none-plain l n (λ i h. f (suc i) (omega arith)))
+
+one-plain : (l : List ℕ) (n i : ℕ) → i < n → getD l i 256 ≡ 92 → isPlain (take n l) ≡ false
+unfolding isPlain
+one-plain l zero i h e = absurd (omega arith)
+one-plain [] (suc n) i h e = absurd (omega arith)
+one-plain (b ∷ l) (suc n) zero h e = rw (eq-eqb b 92 e, isPlain)
+one-plain (b ∷ l) (suc n) (suc i) h e = both (eqb b 92) (λ q. rw (q, isPlain)) (λ q. rw (q, isPlain) (one-plain l n i (omega arith) e))
+
+-- bytes none of which is a backslash, or one of which is
+pub plain-between : (s : List ℕ) (a n : ℕ) → ((k : ℕ) → a ≤ k → k < a + n → byte s k ≡ 92 → ⊥) → isPlain (take n (drop a s)) ≡ true
+unfolding byte
+plain-between s a n f = none-plain (drop a s) n (λ i h e. f (a + i) (omega arith) (omega arith) (sym (getD-drop a s i 256) ∙ e))
+
+pub not-plain-between : (s : List ℕ) (a n k : ℕ) → a ≤ k → k < a + n → byte s k ≡ 92 → isPlain (take n (drop a s)) ≡ false
+unfolding byte
+not-plain-between s a n k h l e = let q : a + (k - a) ≡ k = omega arith in one-plain (drop a s) n (k - a) (omega arith) (getD-drop a s (k - a) 256 ∙ ap (λ (i : ℕ). getD s i 256) q ∙ e)
+
+-- a loop over them has come to i
+pub record Without (s : List ℕ) (at i : ℕ) : Type 0 where
+  pub from : at ≤ i
+  pub none : (k : ℕ) → at ≤ k → k < i → byte s k ≡ 92 → ⊥
+
+pub without : (s : List ℕ) (at : ℕ) → Without s at at
+without s at = record { from = omega arith; none = λ k a l. absurd (omega arith) }
+
+module _ {s : List ℕ} {at i : ℕ} (v : Without s at i) where
+  pub without-more : i < length s → (getD s i 0 ≡ 92 → ⊥) → Without s at (i + 1)
+  without-more h f =
+      let g = v .from in
+      record { from = omega arith; none = λ k a l y. split i k (λ x. let z : k ≡ i = omega arith in f (byte-in s i h ∙ sym (ap (byte s) z) ∙ y)) (λ x. v .none k a x y) }
+
+  pub without-end : {to : ℕ} → to ≤ i → true ≡ isPlain (take (to - at) (drop at s))
+  without-end {to} h = let g = v .from in sym (plain-between s at (to - at) (λ k a l. v .none k a (omega arith)))
+
+  pub without-not : {to : ℕ} → i < to → to ≤ length s → getD s i 0 ≡ 92 → false ≡ isPlain (take (to - at) (drop at s))
+  without-not {to} h m e = let g = v .from in sym (not-plain-between s at (to - at) i g (omega arith) (sym (byte-in s i (omega arith)) ∙ e))
+
 -- ---- the loop over the runs of a string that begins at `at` has come to i
 pub record Reading (s : List ℕ) (at i : ℕ) : Type 0 where
   pub past : at < i
   pub to : i ≤ length s
   pub same : text Plain (drop i s) i ≡ stringAt s at
+
+-- ---- the bytes between its quotes
+
+raw-end : (s : List ℕ) (at : ℕ) {e : ℕ} → stringAt s at ≡ End e → rawBytes s at ≡ take ((e - 1) - (at + 1)) (drop (at + 1) s)
+unfolding rawBytes
+raw-end s at q = rw (q, rawBytes)
+
+raw-bad : (s : List ℕ) (at : ℕ) {e : ℕ} → stringAt s at ≡ Bad e → isPlain (rawBytes s at) ≡ true
+unfolding rawBytes isPlain
+raw-bad s at q = rw (q, rawBytes)
+
+module _ (s : List ℕ) (at : ℕ) {e : ℕ} {r : Scan} (w : Scanned (stringAt s at) at (length s) r) where
+  pub raw-none : r ≡ Bad e → true ≡ isPlain (rawBytes s at)
+  raw-none q = sym (raw-bad s at (sym (w .is) ∙ q))
+
+  pub raw-some : {b : Bool} → r ≡ End e → b ≡ isPlain (take ((e - 1) - (at + 1)) (drop (at + 1) s)) → b ≡ isPlain (rawBytes s at)
+  raw-some q p = p ∙ sym (ap isPlain (raw-end s at (sym (w .is) ∙ q)))
+
+-- ---- a turn of the loop
 
 module _ (s : List ℕ) (at : ℕ) {b : ℕ} (p : b ≡ byte s at) where
   pub string-not : (b ≡ 34 → ⊥) → Scanned (stringAt s at) at (length s) (Bad at)
@@ -267,6 +334,10 @@ module _ {s : List ℕ} {at i j : ℕ} (v : Reading s at i) (o : RunOver s i j) 
       let h = special-inside 34 e (omega arith) in
       let f = o .run .from in
       record { is = sym (text-shut Plain s j (rw (sym p ∙ e))) ∙ o .run .same ∙ v .same; lies = (omega arith, omega arith) }
+
+  -- of one run, which has no backslash
+  pub string-plain : i ≡ at + 1 → b ≡ 34 → isPlain (rawBytes s at) ≡ true
+  string-plain z e = sym (raw-some s at (string-shut e) refl (sym (plain-between s (at + 1) ((j + 1 - 1) - (at + 1)) (λ k a l. o .run .plain k (omega arith) (omega arith)))))
 
   pub string-stuck : (b ≡ 34 → ⊥) → (b ≡ 92 → ⊥) → Scanned (stringAt s at) at (length s) (Bad j)
   unfolding textStep

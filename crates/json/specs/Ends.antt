@@ -1,18 +1,21 @@
--- A table of where values end, by the place at which they begin: what it tells is so, and it need not tell all.
+-- A table of where values end, by the place at which they begin, but for strings with a backslash: what it tells is so, and it need not tell all.
 use Prim.Native.Nat.{ℕ, suc, _≤_, _<_}
 use mathlib.Core.Path.{_≡_}
 use mathlib.Core.List.{List}
+use mathlib.Core.Bool.{true}
 use lib.ListN.{getD, length}
-use Rattle.json.specs.Bytes.{EndsWithin}
+use Rattle.json.specs.Bytes.{byte, EndsWithin}
+use Rattle.json.specs.Strings.{rawBytes, isPlain}
 use Rattle.json.specs.Value.{valueAt, documentOf}
 use Rattle.json.specs.Members.{ItemLies}
 use Rattle.json.specs.declared.Scan.{Scan}
 use Rattle.json.specs.declared.Scan.the-variants.{End}
 use Rattle.json.specs.declared.Item.{Item}
 
--- an entry that lies in the text, more than one past its place, is where the value ends that begins there
+-- an entry that lies in the text, more than one past its place, is where the value ends that begins there; a string with a backslash has none
 pub record Ends (s ends : List ℕ) : Type 0 where
   pub tells : (k : ℕ) → suc k < getD ends k 0 → getD ends k 0 ≤ length s → valueAt 16 s k ≡ End (getD ends k 0)
+  pub plain : (k : ℕ) → suc k < getD ends k 0 → getD ends k 0 ≤ length s → byte s k ≡ 34 → isPlain (rawBytes s k) ≡ true
 
 -- ---- what the functions ensure
 

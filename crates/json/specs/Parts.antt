@@ -48,19 +48,20 @@ pub record Told (ends : List ℕ) (k n r : ℕ) : Type 0 where
 -- ---- strings
 
 -- a byte stands for itself
-unfoldable pub isPlain : ℕ → Bool
-isPlain b = inRange 32 255 b && (not (eqb b 34) && not (eqb b 92))
+unfoldable pub standsForItself : ℕ → Bool
+standsForItself b = inRange 32 255 b && (not (eqb b 34) && not (eqb b 92))
 
--- the bytes from `at` to i stand for themselves: reading on from i is reading from `at`
+-- the bytes from `at` to i stand for themselves: no backslash is among them, and reading on from i is reading from `at`
 pub record Run (s : List ℕ) (at i : ℕ) : Type 0 where
   pub from : at ≤ i
   pub to : i ≤ length s
+  pub plain : (k : ℕ) → at ≤ k → k < i → byte s k ≡ 92 → ⊥
   pub same : text Plain (drop i s) i ≡ text Plain (drop at s) at
 
 -- likewise, and at i no byte stands for itself
 pub record RunOver (s : List ℕ) (at i : ℕ) : Type 0 where
   pub run : Run s at i
-  pub over : isPlain (byte s i) ≡ false
+  pub over : standsForItself (byte s i) ≡ false
 
 -- where an escape ends whose backslash stands before `at`
 abbrev pub EscapeEnds : List ℕ → ℕ → Scan → Type 0

@@ -1,8 +1,8 @@
 -- JSON's strings (RFC 8259, 7), byte by byte.
-use Prim.Native.Nat.{ℕ, _+_}
+use Prim.Native.Nat.{ℕ, _+_, _-_}
 use mathlib.Core.List.{List, [], _∷_}
 use mathlib.Core.Bool.{Bool, true, false, _||_}
-use lib.ListN.{drop}
+use lib.ListN.{take, drop}
 use lib.Dec.{eqb}
 use Rattle.abnf.specs.Accepts.{inRange}
 use Rattle.json.specs.Bytes.{byte}
@@ -49,3 +49,12 @@ text t (b ∷ bs) at = elim (textStep t b) [ Go u ↦ text u bs (at + 1) | Shut 
 -- the string at `at`, from its opening quote
 unfoldable pub stringAt : List ℕ → ℕ → Scan
 stringAt s at = elim (eqb (byte s at) 34) [ true ↦ text Plain (drop (at + 1) s) (at + 1) | false ↦ Bad at ]
+
+-- the bytes between the quotes of the string at k, as sent. None where no string stands there
+unfoldable pub rawBytes : List ℕ → ℕ → List ℕ
+rawBytes s k = elim (stringAt s k) [ End e ↦ take ((e - 1) - (k + 1)) (drop (k + 1) s) | Bad e ↦ [] ]
+
+-- no backslash
+unfoldable pub isPlain : List ℕ → Bool
+isPlain [] = true
+isPlain (b ∷ bs) = elim (eqb b 92) [ true ↦ false | false ↦ isPlain bs ]

@@ -3,13 +3,15 @@ mod number;
 pub mod string;
 
 use number::number;
+use string::is_plain;
+use string::mark_string;
 use string::string;
 ghost use mathlib.Core.Path.{_≡_};
 ghost use Prim.Native.Nat.{_<_};
 ghost use lib.ListN.{length};
 ghost use Rattle.abnf.specs.Accepts.{inRange};
 ghost use Rattle.json.specs.Bytes.{byte, isWs, ws, word, Skipped, Scanned, Moved};
-ghost use Rattle.json.specs.Strings.{stringAt};
+ghost use Rattle.json.specs.Strings.{stringAt, rawBytes, isPlain};
 ghost use Rattle.json.specs.Value.{colon, keyAt, memberOf, valueAt, arrayAt, objectAt, documentOf, opens, isContainer};
 ghost use Rattle.json.specs.Ends.{Ends, ScannedIf, GotItemIf, Marked};
 ghost use Rattle.json.specs.Parts.{Bare, Leaf, Kept, Noted, Least, Cleared, Told};
@@ -111,16 +113,7 @@ fn note(at: usize, r: Scan, ends: &mut [u16])
     }
 }
 
-// The string at `at`, noted.
-fn mark_string(s: &[u8], at: usize, ends: &mut [u16]) -> Scan
-    ensures { λ r. ⌜ Scanned (stringAt (now (s .entry)) at) at (length (now (s .entry))) r × Kept 0 (now (s .entry)) (now (ends .entry)) (now (ends .exit)) ⌝ }
-{
-    let end = string(s, at);
-    note(at, end, ends);
-    end
-}
-
-// A member's name, noted, and its colon: the index of the member's value.
+// A member's name, noted if it has no backslash, and its colon: the index of the member's value.
 fn mark_key(s: &[u8], at: usize, ends: &mut [u16]) -> Scan
     ensures { λ r. ⌜ Scanned (keyAt (now (s .entry)) at) at (length (now (s .entry))) r × Kept 0 (now (s .entry)) (now (ends .entry)) (now (ends .exit)) ⌝ }
 {
@@ -272,7 +265,7 @@ fn clear(n: usize, ends: &mut [u16])
 }
 
 // A whole text: `End` of its length, or the first place at which it cannot be a JSON text nested at most 16 deep. The table then tells where the
-// strings, arrays and objects end that were read, whatever it held before.
+// arrays, objects and strings without a backslash end that were read, whatever it held before.
 pub fn mark(s: &[u8], ends: &mut [u16]) -> Scan
     ensures { λ r. ⌜ Marked (now (s .entry)) r (now (ends .exit)) ⌝ }
 {
@@ -345,6 +338,17 @@ pub fn string_by(s: &[u8], at: usize, ends: &[u16]) -> Scan
     }
     let e = end_in(s.len(), at, ends);
     if e == 0 { string(s, at) } else { Scan::End(e) }
+}
+
+// Whether the string at `k` has no backslash; so it is where no string stands.
+pub fn is_plain_by(s: &[u8], k: usize, ends: &[u16]) -> bool
+    ensures { λ r. ⌜ (Ends (now (s .entry)) (now (ends .entry)) → r ≡ isPlain (rawBytes (now (s .entry)) k)) ⌝ }
+{
+    if end_in(s.len(), k, ends) == 0 {
+        is_plain(s, k)
+    } else {
+        true
+    }
 }
 
 // The value at `k`.

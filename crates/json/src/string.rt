@@ -1,13 +1,14 @@
 // Strings (RFC 8259, 7): runs of bytes that stand for themselves, and escapes byte by byte.
 use super::in_range;
+use super::note;
 use super::peek;
 use crate::Scan;
 ghost use mathlib.Core.Path.{_≡_};
-ghost use Prim.Native.Nat.{_+_, _≤_};
-ghost use lib.ListN.{length};
+ghost use Prim.Native.Nat.{_+_, _-_, _≤_};
+ghost use lib.ListN.{length, take, drop};
 ghost use Rattle.json.specs.Bytes.{Scanned};
-ghost use Rattle.json.specs.Strings.{isHex, isEscape, plainStep, escapeStep, hexStep, textStep, stringAt};
-ghost use Rattle.json.specs.Parts.{isPlain, Run, RunOver, Escaped};
+ghost use Rattle.json.specs.Strings.{isHex, isEscape, plainStep, escapeStep, hexStep, textStep, stringAt, rawBytes, isPlain};
+ghost use Rattle.json.specs.Parts.{Kept, standsForItself, Run, RunOver, Escaped};
 ghost use mathlib.Core.Bool.{true, false};
 ghost use Rattle.json.specs.declared.string.State.the-variants.{Plain};
 ghost use Rattle.json.specs.declared.string.Move.the-variants.{Go};
@@ -110,7 +111,7 @@ fn text_step(t: State, b: u16) -> Move
 }
 
 // Whether a byte stands for itself: without a branch, so that the compiler tests many bytes at once.
-fn is_plain(b: u8) -> bool
+fn stands_unbranched(b: u8) -> bool
     ensures { λ r. ⌜ (r ≡ true → plainStep b ≡ Go Plain) ⌝ }
 {
     (b >= 32) & (b != 34) & (b != 92)
@@ -120,7 +121,10 @@ fn are_plain_4(s: &[u8], i: usize) -> bool
     requires { ⌜ i + 4 ≤ length (now s) ⌝ }
     ensures { λ r. ⌜ (r ≡ true → Run (now (s .entry)) i (i + 4)) ⌝ }
 {
-    is_plain(s[i]) & is_plain(s[i + 1]) & is_plain(s[i + 2]) & is_plain(s[i + 3])
+    stands_unbranched(s[i])
+        & stands_unbranched(s[i + 1])
+        & stands_unbranched(s[i + 2])
+        & stands_unbranched(s[i + 3])
 }
 
 fn are_plain_8(s: &[u8], i: usize) -> bool
@@ -146,8 +150,8 @@ fn plain_blocks(s: &[u8], at: usize) -> usize
 }
 
 // Whether a byte stands for itself: few tests for most bytes.
-fn stands(b: u8) -> bool
-    ensures { λ r. ⌜ r ≡ isPlain b ⌝ }
+fn stands_for_itself(b: u8) -> bool
+    ensures { λ r. ⌜ r ≡ standsForItself b ⌝ }
 {
     if b > 92 {
         return true;
@@ -171,7 +175,7 @@ fn plain_bytes(s: &[u8], at: usize) -> usize
 {
     let mut i = at;
     while i < s.len() {
-        if !stands(s[i]) {
+        if !stands_for_itself(s[i]) {
             return i;
         }
         i += 1;
@@ -222,9 +226,9 @@ fn escape(s: &[u8], at: usize) -> Scan
     }
 }
 
-// The string at `at`, from its opening quote.
-pub fn string(s: &[u8], at: usize) -> Scan
-    ensures { λ r. ⌜ Scanned (stringAt (now (s .entry)) at) at (length (now (s .entry))) r ⌝ }
+// The string at `at`, from its opening quote; its end is noted if it has no backslash.
+pub(crate) fn mark_string(s: &[u8], at: usize, ends: &mut [u16]) -> Scan
+    ensures { λ r. ⌜ Scanned (stringAt (now (s .entry)) at) at (length (now (s .entry))) r × Kept 0 (now (s .entry)) (now (ends .entry)) (now (ends .exit)) ⌝ }
 {
     if peek(s, at) != 34 {
         return Scan::Bad(at);
@@ -233,12 +237,52 @@ pub fn string(s: &[u8], at: usize) -> Scan
     loop {
         let j = plain_run(s, i);
         match peek(s, j) {
-            34 => return Scan::End(j + 1),
+            34 => {
+                let end = Scan::End(j + 1);
+                if i != at + 1 {
+                    return end;
+                }
+                note(at, end, ends);
+                return end;
+            }
             92 => match escape(s, j + 1) {
                 Scan::Bad(e) => return Scan::Bad(e),
                 Scan::End(e) => i = e,
             },
             _ => return Scan::Bad(j),
         }
+    }
+}
+
+// The string at `at`.
+pub fn string(s: &[u8], at: usize) -> Scan
+    ensures { λ r. ⌜ Scanned (stringAt (now (s .entry)) at) at (length (now (s .entry))) r ⌝ }
+{
+    let mut none = [0u16; 1];
+    mark_string(s, at, &mut none)
+}
+
+// Whether no backslash stands from `from` up to `to`.
+fn is_plain_between(s: &[u8], from: usize, to: usize) -> bool
+    requires { ⌜ to ≤ length (now s) ⌝ }
+    ensures { λ r. ⌜ r ≡ isPlain (take (to - from) (drop from (now (s .entry)))) ⌝ }
+{
+    let mut i = from;
+    while i < to {
+        if s[i] == 92 {
+            return false;
+        }
+        i += 1;
+    }
+    true
+}
+
+// Whether the string at `at` has no backslash; so it is where no string stands.
+pub fn is_plain(s: &[u8], at: usize) -> bool
+    ensures { λ r. ⌜ r ≡ isPlain (rawBytes (now (s .entry)) at) ⌝ }
+{
+    match string(s, at) {
+        Scan::Bad(_) => true,
+        Scan::End(e) => is_plain_between(s, at + 1, e - 1),
     }
 }

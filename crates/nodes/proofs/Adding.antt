@@ -1,28 +1,25 @@
 -- Properties put into a list one after another, and what is told of them.
-use Prim.Native.Nat.{ℕ, suc, _≤_, _<_, _-_}
-use native.Mathlib.Omega.{arith}
+use Prim.Native.Nat.{ℕ, suc, _≤_}
 use mathlib.Core.Path.{_≡_, refl, sym, ap, _∙_, subst}
 use mathlib.Core.List.{List, [], _∷_, _++_, append-assoc, append-nil}
-use mathlib.Core.Bool.{Bool, true, false}
-use lib.ListN.{length, drop}
+use mathlib.Core.Bool.{false}
+use lib.ListN.{length}
 use lib.Dec.{ltb}
-use borrow.Author.Tests.{ltb-true, ltb-false, lt-ltb, le-ltb}
+use borrow.Author.Tests.{ltb-true}
 use Rattle.text.proofs.Bytes.{both}
 use Rattle.json.specs.Members.{Member, memberAt, GotItem}
 use Rattle.json.specs.declared.Item.the-variants.{At, Done}
 use Rattle.json.specs.Ends.{Ends}
 use Rattle.faults.specs.declared.Told.{Told}
-use Rattle.faults.specs.declared.Told.the-variants.{Nothing}
-use Rattle.faults.specs.Faults.{Fault, earlier, least, otherRule, _otherwise_}
+use Rattle.faults.specs.Faults.{Fault, earlier, least}
 use Rattle.faults.proofs.Laws.{earlier-assoc, earlier-comm, earlier-none, earlier-nothing, least-join}
-use Rattle.fields.specs.Fields.{among}
-use Rattle.properties.specs.Property.{Property, insert, insertAll}
+use Rattle.properties.specs.Property.{Property, insertAll}
 use Rattle.properties.specs.Entries.{propertiesMost, view}
 use Rattle.properties.proofs.Lists.{insert-append}
 use Rattle.properties.specs.declared.Entries.{Entries}
 use Rattle.fields.proofs.Walk.{Walking, at-done, at-item, walking-as}
 use Rattle.nodes.specs.declared.Listed.{Listed}
-use Rattle.nodes.specs.Parts.{counted, pastMost, Adds}
+use Rattle.nodes.specs.Parts.{counted, pastMostAt, pastMost, Adds}
 
 -- ---- faults told in another order
 
@@ -41,7 +38,7 @@ counted-full n [] e = refl
 counted-full n (m ∷ ns) e = rw (e, counted)
 
 pub counted-append : (n : ℕ) (ms ns : List Member) → counted n (ms ++ ns) ≡ counted (counted n ms) ns
-unfolding counted _++_
+unfolding counted
 counted-append n [] ns = refl
 counted-append n (m ∷ ms) ns = both (ltb n propertiesMost)
     (λ e. rw (e, counted) (counted-append (suc n) ms ns))
@@ -58,13 +55,13 @@ counted-none : (n : ℕ) → counted n [] ≡ n
 unfolding counted
 counted-none n = refl
 
-pub past-append : (n : ℕ) (ms ns : List Member) → pastMost n (ms ++ ns) ≡ pastMost n ms ++ pastMost (counted n ms) ns
-unfolding pastMost _++_
-past-append n [] ns = ap (λ (k : ℕ). pastMost k ns) (sym (counted-none n))
-past-append n (m ∷ ms) ns =
-    ap (λ (fs : List Fault). (ltb n propertiesMost otherwise otherRule (m .name)) ++ fs) (past-append (counted n (m ∷ [])) ms ns) ∙
-    (sym (append-assoc (ltb n propertiesMost otherwise otherRule (m .name)) (pastMost (counted n (m ∷ [])) ms) (pastMost (counted (counted n (m ∷ [])) ms) ns)) ∙
-    ap (λ (k : ℕ). ((ltb n propertiesMost otherwise otherRule (m .name)) ++ pastMost (counted n (m ∷ [])) ms) ++ pastMost k ns) (sym (counted-append n (m ∷ []) ms)))
+pub past-append : (s : List ℕ) (n : ℕ) (ms ns : List Member) → pastMost s n (ms ++ ns) ≡ pastMost s n ms ++ pastMost s (counted n ms) ns
+unfolding pastMost
+past-append s n [] ns = ap (λ (k : ℕ). pastMost s k ns) (sym (counted-none n))
+past-append s n (m ∷ ms) ns =
+    ap (λ (fs : List Fault). pastMostAt s n (m .name) ++ fs) (past-append s (counted n (m ∷ [])) ms ns) ∙
+    (sym (append-assoc (pastMostAt s n (m .name)) (pastMost s (counted n (m ∷ [])) ms) (pastMost s (counted (counted n (m ∷ [])) ms) ns)) ∙
+    ap (λ (k : ℕ). (pastMostAt s n (m .name) ++ pastMost s (counted n (m ∷ [])) ms) ++ pastMost s k ns) (sym (counted-append n (m ∷ []) ms)))
 
 -- ---- properties put in one after another
 
@@ -81,13 +78,13 @@ parts fs gs xs ys =
 module _ (s : List ℕ) where
   -- nothing more
   pub adds-none : (l : Listed) → Adds [] [] [] s l l
-  unfolding pastMost counted least insertAll _++_
+  unfolding pastMost counted least insertAll
   adds-none l = record { told = sym (earlier-none (l .told)); count = refl; list = λ e. refl }
 
   -- other faults of which the same is told
   pub adds-as : {fs gs : List Fault} {ms : List Member} {ps : List Property} {a b : Listed} → least fs ≡ least gs → Adds fs ms ps s a b → Adds gs ms ps s a b
   adds-as {fs} {gs} {ms} {ps} {a} {b} e h = record {
-    told = h .told ∙ ap (earlier (a .told)) (least-join fs (pastMost (a .list .n) ms) ∙ (ap (λ (t : Told). earlier t (least (pastMost (a .list .n) ms))) e ∙ sym (least-join gs (pastMost (a .list .n) ms))));
+    told = h .told ∙ ap (earlier (a .told)) (least-join fs (pastMost s (a .list .n) ms) ∙ (ap (λ (t : Told). earlier t (least (pastMost s (a .list .n) ms))) e ∙ sym (least-join gs (pastMost s (a .list .n) ms))));
     count = h .count;
     list = h .list;
   }
@@ -96,14 +93,14 @@ module _ (s : List ℕ) where
   pub adds-then : {fs gs : List Fault} {ms ns : List Member} {ps qs : List Property} {a b c : Listed} →
       Adds fs ms ps s a b → Adds gs ns qs s b c → Adds (fs ++ gs) (ms ++ ns) (ps ++ qs) s a c
   adds-then {fs} {gs} {ms} {ns} {ps} {qs} {a} {b} {c} h k = record {
-    told = k .told ∙ (ap (λ (t : Told). earlier t (least (gs ++ pastMost (b .list .n) ns))) (h .told) ∙ (earlier-assoc (a .told) (least (fs ++ pastMost (a .list .n) ms)) (least (gs ++ pastMost (b .list .n) ns)) ∙ ap (earlier (a .told)) (ap (λ (n : ℕ). earlier (least (fs ++ pastMost (a .list .n) ms)) (least (gs ++ pastMost n ns))) (h .count) ∙ (parts fs gs (pastMost (a .list .n) ms) (pastMost (counted (a .list .n) ms) ns) ∙ ap (λ (l : List Fault). least ((fs ++ gs) ++ l)) (sym (past-append (a .list .n) ms ns))))));
+    told = k .told ∙ (ap (λ (t : Told). earlier t (least (gs ++ pastMost s (b .list .n) ns))) (h .told) ∙ (earlier-assoc (a .told) (least (fs ++ pastMost s (a .list .n) ms)) (least (gs ++ pastMost s (b .list .n) ns)) ∙ ap (earlier (a .told)) (ap (λ (n : ℕ). earlier (least (fs ++ pastMost s (a .list .n) ms)) (least (gs ++ pastMost s n ns))) (h .count) ∙ (parts fs gs (pastMost s (a .list .n) ms) (pastMost s (counted (a .list .n) ms) ns) ∙ ap (λ (l : List Fault). least ((fs ++ gs) ++ l)) (sym (past-append s (a .list .n) ms ns))))));
     count = k .count ∙ (ap (λ (n : ℕ). counted n ns) (h .count) ∙ sym (counted-append (a .list .n) ms ns));
-    list = λ e. k .list e ∙ (ap (insertAll qs) (h .list (earlier-nothing (b .told) (least (gs ++ pastMost (b .list .n) ns)) (sym (k .told) ∙ e) .0)) ∙ sym (insert-append ps qs (view s (a .list))));
+    list = λ e. k .list e ∙ (ap (insertAll qs) (h .list (earlier-nothing (b .told) (least (gs ++ pastMost s (b .list .n) ns)) (sym (k .told) ∙ e) .0)) ∙ sym (insert-append ps qs (view s (a .list))));
   }
 
   -- one fault more, or none
   pub adds-faults : (fs : List Fault) {t u : Told} {a b : Listed} → t ≡ least fs → u ≡ earlier (a .told) t → b .told ≡ u → b .list ≡ a .list → Adds fs [] [] s a b
-  unfolding pastMost counted insertAll _++_
+  unfolding pastMost counted insertAll
   adds-faults fs {t} {u} {a} {b} p q r e = record {
     told = r ∙ (q ∙ ap (earlier (a .told)) (p ∙ ap least (sym (append-nil fs))));
     count = ap (λ (l : Entries). l .n) e;
@@ -138,7 +135,6 @@ module _ (w : Adding) (s : List ℕ) where
   adds-nothing a = rw (w .faults-none, w .named-none, w .declared-none) (adds-none s a)
 
   pub turn-first : {i : ℕ} {all : List Member} (a : Listed) → Walking (memberAt s) (λ ms. ms) (length s) i all → Turn w s i all a a
-  unfolding _++_
   turn-first a g = record { before = []; walking = g; adds = adds-nothing a }
 
   module _ {i : ℕ} {all : List Member} {a b : Listed} (t : Turn w s i all a b) where
@@ -146,7 +142,6 @@ module _ (w : Adding) (s : List ℕ) where
     turn-done q = subst (λ (ms : List Member). AddsAll w ms s a b) (sym (append-nil (t .before)) ∙ at-done (memberAt s) (λ ms. t .before ++ ms) (length s) i (t .walking) q) (t .adds)
 
     pub turn-next : {k e n : ℕ} {c : Listed} → GotItem (memberAt s i) i (length s) (At k e n) → AddsAll w (record { name = i; value = k; end = e } ∷ []) s b c → Turn w s n all a c
-    unfolding _++_
     turn-next {k} {e} {n} {c} g h =
         let m : Member = record { name = i; value = k; end = e } in
         record {

@@ -3,33 +3,33 @@ use Prim.Native.Nat.{ℕ, zero, suc, _+_, _≤_}
 use native.Mathlib.Omega.{arith}
 use mathlib.Core.Path.{_≡_, refl, sym, ap, _∙_}
 use mathlib.Core.Logic.{_⊎_, inl, inr}
-use mathlib.Core.List.{List, [], _∷_, _++_}
-use mathlib.Core.Bool.{Bool, true, false}
+use mathlib.Core.List.{List, [], _∷_}
+use mathlib.Core.Bool.{true}
 use lib.ListN.{length, drop, length-append}
 use Rattle.json.specs.Members.{Member}
-use Rattle.faults.specs.Faults.{Fault, otherRule}
 use Rattle.faults.proofs.Laws.{both-none}
 use Rattle.fields.specs.Values.{stringBytes, members, nameOf}
-use Rattle.fields.specs.Fields.{field, membersIn, among, comesFirst, entryFaults}
+use Rattle.fields.specs.Fields.{field, membersIn, among, comesFirst}
 use Rattle.fields.specs.declared.Field.{Field}
 use Rattle.fields.specs.declared.Field.the-variants.{Absent, First}
 use Rattle.fields.proofs.Names as names
-use Rattle.fields.proofs.Names.{Unnamed, unnamed-none, unnamed-more, Unlike, Firsts, firsts-none, firsts-more, firsts, unlike, among-first, among-rest}
+use Rattle.fields.proofs.Names.{Unnamed, unnamed-more, Unlike, Firsts, firsts-more, firsts, unlike, among-first, among-rest}
 use Rattle.properties.specs.Property.{Property, propertyFaults, propertyAt}
-use Rattle.properties.specs.Valid.{In, here, later, Differ, Apart, none, more}
+use Rattle.properties.specs.Valid.{In, here, later, Apart, none, more}
 use Rattle.properties.specs.Entries.{propertiesMost}
 use Rattle.properties.proofs.Lists.{in-none, in-append}
 use Rattle.properties.proofs.Order.{apart-append}
 use Rattle.nodes.specs.Names.{properties}
-use Rattle.nodes.specs.Nodes.{propertyMember, each, nodeFaults, nodeMember, namedBy, namedIn, tooMany, nodesFaults, propertiesAmong, propertiesOf}
+use Rattle.nodes.specs.Nodes.{propertyMember, each, nodeFaults, nodeMember, namedBy, namedIn, tooManyAt, tooMany, nodesFaults, propertiesAmong, propertiesOf}
+use Rattle.nodes.proofs.Nodes.{too-many-one}
 use Rattle.nodes.proofs.Valid.{node-entry, node-properties}
 
-pub no-more : (d : ℕ) (ms : List Member) → among (λ m. otherRule (m .name) ∷ []) (drop d ms) ≡ [] → length ms ≤ d
-unfolding among drop
-no-more zero [] h = omega arith
-no-more (suc d) [] h = omega arith
-no-more zero (m ∷ ms) h = let z : _≡_ {A = ℕ} 0 1 = cc in absurd (omega arith)
-no-more (suc d) (m ∷ ms) h = let k = no-more d ms h in omega (arith, k)
+pub no-more : (s : List ℕ) (d : ℕ) (ms : List Member) → among (λ m. tooManyAt s (m .name)) (drop d ms) ≡ [] → length ms ≤ d
+unfolding among
+no-more s zero [] h = omega arith
+no-more s (suc d) [] h = omega arith
+no-more s zero (m ∷ ms) h = absurd (too-many-one s (m .name) (both-none (tooManyAt s (m .name)) _ h .0))
+no-more s (suc d) (m ∷ ms) h = let k = no-more s d ms h in omega (arith, k)
 
 module _ (s : List ℕ) where
   property-firsts : (at : ℕ) (ms : List Member) → among (propertyMember s at) ms ≡ [] → Firsts s at ms
@@ -90,7 +90,7 @@ module _ (s : List ℕ) where
   unfolding nodesFaults membersIn propertiesOf
   nodes-apart Absent h = none
   nodes-apart (First k) h =
-      let g = both-none (among (nodeMember s k) (members s k)) (tooMany (namedIn s k (members s k))) h .0 in
+      let g = both-none (among (nodeMember s k) (members s k)) (tooMany s (namedIn s k (members s k))) h .0 in
       of-apart k (members s k) (unlike s k (node-firsts k (members s k) g)) g
 
   -- ---- how many they are
@@ -111,7 +111,7 @@ module _ (s : List ℕ) where
   named-length : (at : ℕ) (ns : List Member) → Firsts s at ns → length (propertiesOf s ns) ≡ length (namedIn s at ns)
   unfolding propertiesOf
   named-length at [] f = named-none at
-  named-length at (n ∷ ns) (firsts-more e f) =
+  named-length at (n ∷ ns) (firsts-more w e f) =
       let l = membersIn s (field s (n .value) properties) in
       length-append (propertiesAmong s (n .name) l) (propertiesOf s ns) ∙
       (ap (λ (k : ℕ). k + length (propertiesOf s ns)) (among-length (n .name) l) ∙
@@ -121,5 +121,5 @@ module _ (s : List ℕ) where
   unfolding nodesFaults membersIn propertiesOf tooMany
   nodes-few Absent h = omega arith
   nodes-few (First k) h =
-      let g = both-none (among (nodeMember s k) (members s k)) (tooMany (namedIn s k (members s k))) h in
-      rw (named-length k (members s k) (node-firsts k (members s k) (g .0))) (no-more propertiesMost (namedIn s k (members s k)) (g .1))
+      let g = both-none (among (nodeMember s k) (members s k)) (tooMany s (namedIn s k (members s k))) h in
+      rw (named-length k (members s k) (node-firsts k (members s k) (g .0))) (no-more s propertiesMost (namedIn s k (members s k)) (g .1))

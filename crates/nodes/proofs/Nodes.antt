@@ -4,18 +4,19 @@ use native.Mathlib.Omega.{arith}
 use mathlib.Core.Path.{_≡_, refl, sym, ap, _∙_, subst}
 use mathlib.Core.List.{List, [], _∷_, _++_, append-assoc, append-nil}
 use mathlib.Core.Bool.{Bool, true, false}
-use lib.ListN.{length, drop}
+use lib.ListN.{drop}
 use lib.Dec.{ltb}
 use borrow.Author.Tests.{ltb-true, ltb-false, lt-ltb, le-ltb}
-use Rattle.text.specs.Ids.{isId}
 use Rattle.text.proofs.Bytes.{both}
 use Rattle.json.specs.Members.{Member}
 use Rattle.faults.specs.declared.Told.{Told}
 use Rattle.faults.specs.declared.Told.the-variants.{Nothing, At}
-use Rattle.faults.specs.Faults.{Fault, earlier, least, wrongKind, repeated, otherRule, _otherwise_}
-use Rattle.faults.proofs.Laws.{earlier-assoc, earlier-comm, earlier-none, earlier-nothing, least-join, least-one, at-nothing, rule-holds, rule-broken, join-told}
-use Rattle.fields.specs.Values.{stringBytes, isObject, members, nameOf}
-use Rattle.fields.specs.Fields.{field, fieldIn, isFirst, membersIn, comesFirst, entryFaults, among, ofKind, nameFaults, fieldFaults}
+use Rattle.faults.specs.Faults.{Fault, earlier, least, wrongKind, repeated, otherRule}
+use Rattle.faults.proofs.Laws.{earlier-assoc, earlier-comm, earlier-nothing, least-join, least-nothing, least-none, least-one, at-nothing, join-told}
+use Rattle.escapes.specs.Decode.{Decoded, whole, half}
+use Rattle.fields.specs.Values.{decodedAt, isObject, members}
+use Rattle.fields.specs.Fields.{field, fieldIn, firstOf, membersIn, comesFirst, unlessHalf, decodedFaults, noRule, idRule, entryFaults, among, ofKind, nameFaults, fieldFaults}
+use Rattle.fields.proofs.Decoded.{whole-faults, untold-whole, told-faults}
 use Rattle.fields.specs.Known.{knownName, fieldAt, Knows}
 use Rattle.fields.specs.declared.Kind.{Kind}
 use Rattle.fields.specs.declared.Kind.the-variants.{Text, Object}
@@ -30,31 +31,63 @@ use Rattle.properties.specs.declared.Judged.{Judged}
 use Rattle.properties.specs.Judged.{Judges}
 use Rattle.nodes.specs.declared.Listed.{Listed}
 use Rattle.nodes.specs.Names.{name, type, properties}
-use Rattle.nodes.specs.Nodes.{propertyMember, each, nodeFieldFaults, nodeFaults, nodeMember, namedBy, namedIn, tooMany, nodesFaults, propertiesAmong, propertiesOf}
+use Rattle.nodes.specs.Nodes.{propertyMember, each, nodeFieldFaults, nodeFaults, nodeMember, namedBy, namedIn, tooManyAt, tooMany, nodesFaults, propertiesAmong, propertiesOf}
 use Rattle.nodes.specs.Listed.{Lists}
-use Rattle.nodes.specs.Parts.{itemOf, lists, counted, pastMost, Adds, seenFaults}
-use Rattle.nodes.proofs.Adding.{cross, counted-few, Adding, AddsAll, adds-none, adds-as, adds-then, adds-faults}
+use Rattle.nodes.specs.Parts.{itemOf, lists, counted, pastMostAt, pastMost, Adds, seenFaults}
+use Rattle.nodes.proofs.Adding.{counted-few, Adding, AddsAll, adds-none, adds-as, adds-then, adds-faults}
 
 -- ---- one property
 
-pub within-most : (n i : ℕ) → n < propertiesMost → Nothing ≡ least (ltb n propertiesMost otherwise otherRule i)
-within-most n i h = rule-holds (ltb n propertiesMost) (otherRule i) (lt-ltb n propertiesMost h)
+-- the 25th property's ID has a fault
+pub too-many-one : (s : List ℕ) (k : ℕ) → tooManyAt s k ≡ [] → ⊥
+unfolding tooManyAt decodedFaults unlessHalf
+too-many-one s k e = go (decodedAt s k) e
+  where
+    go : (d : Decoded) → unlessHalf d k (λ t. otherRule k ∷ []) ≡ [] → ⊥
+    go (whole t) q = let z : _≡_ {A = ℕ} 0 1 = cc in absurd (omega arith)
+    go (half p) q = let z : _≡_ {A = ℕ} 0 1 = cc in absurd (omega arith)
 
-pub beyond-most : (n i : ℕ) → propertiesMost ≤ n → At i 25 ≡ least (ltb n propertiesMost otherwise otherRule i)
-beyond-most n i h = rule-broken (ltb n propertiesMost) (otherRule i) (le-ltb n propertiesMost h)
+-- by what is told of half a surrogate pair in it
+module _ (s : List ℕ) (k : ℕ) {r : Told} (w : r ≡ least (decodedFaults s k noRule)) where
+  too-many-half : {p m : ℕ} → r ≡ At p m → At p m ≡ least (tooManyAt s k)
+  unfolding tooManyAt
+  too-many-half {p} {m} q = least-one p m ∙ sym (ap least (told-faults s k w q (λ t. otherRule k ∷ [])))
+
+  too-many-whole : r ≡ Nothing → At k 25 ≡ least (tooManyAt s k)
+  unfolding tooManyAt
+  too-many-whole q = least-one k 25 ∙ sym (ap least (whole-faults s k (λ t. otherRule k ∷ []) (untold-whole s k w q)))
+
+module _ (s : List ℕ) (n k : ℕ) where
+  past-room : n < propertiesMost → pastMostAt s n k ≡ []
+  unfolding pastMostAt
+  past-room h = rw (lt-ltb n propertiesMost h, pastMostAt)
+
+  past-full : propertiesMost ≤ n → pastMostAt s n k ≡ tooManyAt s k
+  unfolding pastMostAt
+  past-full h = rw (le-ltb n propertiesMost h, pastMostAt)
+
+  pub within-most : n < propertiesMost → Nothing ≡ least (pastMostAt s n k)
+  within-most h = least-none (past-room h)
+
+  module _ (h : propertiesMost ≤ n) {r : Told} (w : r ≡ least (decodedFaults s k noRule)) where
+    pub beyond-most : r ≡ Nothing → At k 25 ≡ least (pastMostAt s n k)
+    beyond-most q = too-many-whole s k w q ∙ sym (ap least (past-full h))
+
+    pub beyond-half : {p m : ℕ} → r ≡ At p m → At p m ≡ least (pastMostAt s n k)
+    beyond-half q = too-many-half s k w q ∙ sym (ap least (past-full h))
+
+  -- where nothing is told of the number, there is room
+  room : least (pastMostAt s n k) ≡ Nothing → n < propertiesMost
+  room e = both (ltb n propertiesMost)
+      (λ q. ltb-true n propertiesMost q)
+      (λ q. absurd (too-many-one s k (least-nothing (tooManyAt s k) (sym (ap least (past-full (ltb-false n propertiesMost q))) ∙ e))))
 
 swap : (a b c : Told) → earlier (earlier a b) c ≡ earlier (earlier a c) b
 swap a b c = earlier-assoc a b c ∙ (ap (earlier a) (earlier-comm b c) ∙ sym (earlier-assoc a c b))
 
--- where nothing is told of the number, there is room
-room : (n i : ℕ) → least (ltb n propertiesMost otherwise otherRule i) ≡ Nothing → n < propertiesMost
-room n i e = both (ltb n propertiesMost)
-    (λ q. ltb-true n propertiesMost q)
-    (λ q. absurd (at-nothing (rule-broken (ltb n propertiesMost) (otherRule i) q ∙ e)))
-
-past-one : (n : ℕ) (m : Member) → least (pastMost n (m ∷ [])) ≡ least (ltb n propertiesMost otherwise otherRule (m .name))
+past-one : (s : List ℕ) (n : ℕ) (m : Member) → least (pastMost s n (m ∷ [])) ≡ least (pastMostAt s n (m .name))
 unfolding pastMost
-past-one n m = ap least (append-nil (ltb n propertiesMost otherwise otherRule (m .name)))
+past-one s n m = ap least (append-nil (pastMostAt s n (m .name)))
 
 -- the value of a member, by whether it is the first of its name
 abbrev pub valueFaults : Bool → List Fault → ℕ → List Fault
@@ -70,19 +103,19 @@ module _ (s : List ℕ) (i : ℕ) (fs : List Fault) {want : Property} {j : Judge
 -- a member of `properties`, judged with n before it
 module _ (s : List ℕ) (node at i k e n : ℕ) {first : Bool} {p r : Judged} {name past one : Told} where
   pub member-judged :
-      first ≡ isFirst k (field s at (stringBytes s i)) →
+      first ≡ firstOf s at k (decodedAt s i) →
       Judges (valueFaults first (propertyFaults s k) i) (propertyAt s node i k) s p →
-      name ≡ least (isId (stringBytes s i) otherwise otherRule i) →
-      past ≡ least (ltb n propertiesMost otherwise otherRule i) →
+      name ≡ least (decodedFaults s i (idRule i)) →
+      past ≡ least (pastMostAt s n i) →
       one ≡ earlier name past →
       r .told ≡ earlier one (p .told) →
       r .entry ≡ p .entry →
-      Judges (propertyMember s at (itemOf i k e) ++ pastMost n (itemOf i k e ∷ [])) (propertyAt s node i k) s r
-  unfolding propertyMember entryFaults comesFirst nameOf pastMost
+      Judges (propertyMember s at (itemOf i k e) ++ pastMost s n (itemOf i k e ∷ [])) (propertyAt s node i k) s r
+  unfolding propertyMember entryFaults comesFirst pastMost
   member-judged f j x y t1 t2 q =
       let value = valueFaults first (propertyFaults s k) i in
-      let ids = isId (stringBytes s i) otherwise otherRule i in
-      let most = ltb n propertiesMost otherwise otherRule i in
+      let ids = decodedFaults s i (idRule i) in
+      let most = pastMostAt s n i in
       record {
         told = t2 ∙ (ap (λ (z : Told). earlier z (p .told)) t1 ∙ (swap name past (p .told) ∙ (join-told (ids ++ value) (most ++ []) (join-told ids value x (j .told)) (y ∙ ap least (sym (append-nil most))) ∙ ap (λ (b : Bool). least ((ids ++ valueFaults b (propertyFaults s k) i) ++ (most ++ []))) f)));
         declares = λ z. ap (content s) q ∙ j .declares (earlier-nothing one (p .told) (sym t2 ∙ z) .1);
@@ -90,7 +123,7 @@ module _ (s : List ℕ) (node at i k e n : ℕ) {first : Bool} {p r : Judged} {n
 
 -- put into the list
 module _ (s : List ℕ) (m : Member) (fs : List Fault) {want : Property} {told told′ : Told} {list list′ : Entries} {p : Judged} where
-  pub adds-one : Judges (fs ++ pastMost (list .n) (m ∷ [])) want s p → told′ ≡ earlier told (p .told) → Inserted s (content s (p .entry)) list list′ →
+  pub adds-one : Judges (fs ++ pastMost s (list .n) (m ∷ [])) want s p → told′ ≡ earlier told (p .told) → Inserted s (content s (p .entry)) list list′ →
       Adds fs (m ∷ []) (want ∷ []) s (lists told list) (lists told′ list′)
   unfolding counted insertAll
   adds-one j t l =
@@ -102,14 +135,14 @@ module _ (s : List ℕ) (m : Member) (fs : List Fault) {want : Property} {told t
             (λ q. ap (λ (r : Entries). r .n) (l .full (ltb-false n propertiesMost q)) ∙ rw (q, counted));
         list = λ z.
             let none = earlier-nothing told (p .told) (sym t ∙ z) .1 in
-            let parts = earlier-nothing (least fs) (least (pastMost n (m ∷ []))) (sym (least-join fs (pastMost n (m ∷ []))) ∙ (sym (j .told) ∙ none)) in
-            l .view (room n (m .name) (sym (past-one n m) ∙ parts .1)) ∙ ap (λ (q : Property). insert q (view s list)) (j .declares none);
+            let parts = earlier-nothing (least fs) (least (pastMost s n (m ∷ []))) (sym (least-join fs (pastMost s n (m ∷ []))) ∙ (sym (j .told) ∙ none)) in
+            l .view (room s n (m .name) (sym (past-one s n m) ∙ parts .1)) ∙ ap (λ (q : Property). insert q (view s list)) (j .declares none);
       }
 
 -- ---- the properties of a node
 
 pub among-append : (f : Member → List Fault) (ms ns : List Member) → among f (ms ++ ns) ≡ among f ms ++ among f ns
-unfolding among _++_
+unfolding among
 among-append f [] ns = refl
 among-append f (m ∷ ms) ns = ap (λ (l : List Fault). f m ++ l) (among-append f ms ns) ∙ sym (append-assoc (f m) (among f ms) (among f ns))
 
@@ -118,7 +151,7 @@ unfolding among
 among-one f m = sym (append-nil (f m))
 
 pub properties-append : (s : List ℕ) (node : ℕ) (ms ns : List Member) → propertiesAmong s node (ms ++ ns) ≡ propertiesAmong s node ms ++ propertiesAmong s node ns
-unfolding propertiesAmong _++_
+unfolding propertiesAmong
 properties-append s node [] ns = refl
 properties-append s node (m ∷ ms) ns = ap (λ (l : List Property). propertyAt s node (m .name) (m .value) ∷ l) (properties-append s node ms ns)
 
@@ -192,14 +225,14 @@ module _ (s : List ℕ) (i k : ℕ) {told : Told} {list : Entries} where
 -- ---- nodes
 
 pub named-append : (s : List ℕ) (at : ℕ) (ms ns : List Member) → namedIn s at (ms ++ ns) ≡ namedIn s at ms ++ namedIn s at ns
-unfolding namedIn _++_
+unfolding namedIn
 named-append s at [] ns = refl
 named-append s at (m ∷ ms) ns =
     let l = namedBy s (comesFirst s at m) (m .value) in
     ap (λ (r : List Member). l ++ r) (named-append s at ms ns) ∙ sym (append-assoc l (namedIn s at ms) (namedIn s at ns))
 
 pub declared-append : (s : List ℕ) (ms ns : List Member) → propertiesOf s (ms ++ ns) ≡ propertiesOf s ms ++ propertiesOf s ns
-unfolding propertiesOf _++_
+unfolding propertiesOf
 declared-append s [] ns = refl
 declared-append s (m ∷ ms) ns =
     let l = propertiesAmong s (m .name) (membersIn s (field s (m .value) properties)) in
@@ -226,17 +259,17 @@ adds-told s qs n h = record { told = h .told; count = h .count; list = λ e. abs
 adds-nil : (s : List ℕ) {fs : List Fault} {ms : List Member} {ps : List Property} {a b : Listed} → Adds fs ms ps s a b → Adds fs (ms ++ []) (ps ++ []) s a b
 adds-nil s {ms = ms} {ps = ps} h = rw (append-nil ms, append-nil ps) h
 
-module _ (s : List ℕ) (at i k e : ℕ) {first : Bool} {name told named : Told} {list : Entries} (f : first ≡ isFirst k (field s at (stringBytes s i)))
-    (x : name ≡ least (isId (stringBytes s i) otherwise otherRule i)) (y : named ≡ earlier told name) where
+module _ (s : List ℕ) (at i k e : ℕ) {first : Bool} {name told named : Told} {list : Entries} (f : first ≡ firstOf s at k (decodedAt s i))
+    (x : name ≡ least (decodedFaults s i (idRule i))) (y : named ≡ earlier told name) where
   pub member-first : {c : Listed} → first ≡ true → AddsNode s i k (nodeFaults s k) (lists named list) c →
       Adds (nodeMember s at (itemOf i k e)) (namedIn s at (itemOf i k e ∷ [])) (propertiesOf s (itemOf i k e ∷ [])) s (lists told list) c
-  unfolding nodeMember entryFaults comesFirst nameOf namedIn namedBy propertiesOf
-  member-first q h = rw (sym f ∙ q) (adds-nil s (adds-then s (adds-also s (isId (stringBytes s i) otherwise otherRule i) x y) h))
+  unfolding nodeMember entryFaults comesFirst namedIn namedBy propertiesOf
+  member-first q h = rw (sym f ∙ q) (adds-nil s (adds-then s (adds-also s (decodedFaults s i (idRule i)) x y) h))
 
   pub member-again : {u : Told} → first ≡ false → u ≡ earlier named (At i 24) →
       Adds (nodeMember s at (itemOf i k e)) (namedIn s at (itemOf i k e ∷ [])) (propertiesOf s (itemOf i k e ∷ [])) s (lists told list) (lists u list)
-  unfolding nodeMember entryFaults comesFirst nameOf namedIn namedBy propertiesOf
-  member-again q h = rw (sym f ∙ q) (adds-told s _ (λ z. at-nothing (earlier-nothing named (At i 24) (sym h ∙ z) .1)) (adds-then s (adds-also s (isId (stringBytes s i) otherwise otherRule i) x y) (adds-also s (repeated i ∷ []) (least-one i 24) h)))
+  unfolding nodeMember entryFaults comesFirst namedIn namedBy propertiesOf
+  member-again q h = rw (sym f ∙ q) (adds-told s _ (λ z. at-nothing (earlier-nothing named (At i 24) (sym h ∙ z) .1)) (adds-then s (adds-also s (decodedFaults s i (idRule i)) x y) (adds-also s (repeated i ∷ []) (least-one i 24) h)))
 
 module _ (s : List ℕ) (at i k e : ℕ) {a b : Listed} where
   pub one-node : Adds (nodeMember s at (itemOf i k e)) (namedIn s at (itemOf i k e ∷ [])) (propertiesOf s (itemOf i k e ∷ [])) s a b → AddsAll (ofNodes s at) (itemOf i k e ∷ []) s a b
@@ -253,20 +286,21 @@ more : (n : ℕ) (m : Member) → n < propertiesMost → counted n (m ∷ []) �
 unfolding counted
 more n m h = rw (lt-ltb n propertiesMost h, counted)
 
-past-drop : (d n : ℕ) (ms : List Member) → n + d ≡ propertiesMost → pastMost n ms ≡ among (λ m. otherRule (m .name) ∷ []) (drop d ms)
-unfolding pastMost among drop _otherwise_
-past-drop zero n [] e = refl
-past-drop (suc d) n [] e = refl
-past-drop zero n (m ∷ ms) e =
-    rw (le-ltb n propertiesMost (omega (arith, e)))
-    (ap (λ (l : List Fault). otherRule (m .name) ∷ l) (ap (λ (k : ℕ). pastMost k ms) (full n m e) ∙ past-drop zero n ms e))
-past-drop (suc d) n (m ∷ ms) e =
-    rw (lt-ltb n propertiesMost (omega (arith, e)))
-    (ap (λ (k : ℕ). pastMost k ms) (more n m (omega (arith, e))) ∙ past-drop d (suc n) ms (omega (arith, e)))
+module _ (s : List ℕ) where
+  past-drop : (d n : ℕ) (ms : List Member) → n + d ≡ propertiesMost → pastMost s n ms ≡ among (λ m. tooManyAt s (m .name)) (drop d ms)
+  unfolding pastMost among
+  past-drop zero n [] e = refl
+  past-drop (suc d) n [] e = refl
+  past-drop zero n (m ∷ ms) e =
+      rw (past-full s n (m .name) (omega (arith, e)))
+      (ap (λ (l : List Fault). tooManyAt s (m .name) ++ l) (ap (λ (k : ℕ). pastMost s k ms) (full n m e) ∙ past-drop zero n ms e))
+  past-drop (suc d) n (m ∷ ms) e =
+      rw (past-room s n (m .name) (omega (arith, e)))
+      (ap (λ (k : ℕ). pastMost s k ms) (more n m (omega (arith, e))) ∙ past-drop d (suc n) ms (omega (arith, e)))
 
-pub past-many : (ms : List Member) → pastMost 0 ms ≡ tooMany ms
-unfolding tooMany
-past-many ms = past-drop propertiesMost 0 ms refl
+  pub past-many : (ms : List Member) → pastMost s 0 ms ≡ tooMany s ms
+  unfolding tooMany
+  past-many ms = past-drop propertiesMost 0 ms refl
 
 module _ (s : List ℕ) {f : Field} where
   pub lists-none : {r : Listed} → f ≡ Absent → r .told ≡ Nothing → r .list .n ≡ 0 → view s (r .list) ≡ [] → Lists (nodesFaults s f) (insertAll (propertiesOf s (membersIn s f)) []) s r
@@ -277,7 +311,7 @@ module _ (s : List ℕ) {f : Field} where
       AddsAll (ofNodes s k) (members s k) s a b → Lists (nodesFaults s f) (insertAll (propertiesOf s (membersIn s f)) []) s b
   unfolding nodesFaults membersIn ofNodes earlier
   lists-some k {a} {b} e t n v h = rw e (record {
-    told = h .told ∙ (ap (λ (z : Told). earlier z (least (among (nodeMember s k) (members s k) ++ pastMost (a .list .n) (namedIn s k (members s k))))) t ∙ ap (λ (l : List Fault). least (among (nodeMember s k) (members s k) ++ l)) (ap (λ (z : ℕ). pastMost z (namedIn s k (members s k))) n ∙ past-many (namedIn s k (members s k))));
+    told = h .told ∙ (ap (λ (z : Told). earlier z (least (among (nodeMember s k) (members s k) ++ pastMost s (a .list .n) (namedIn s k (members s k))))) t ∙ ap (λ (l : List Fault). least (among (nodeMember s k) (members s k) ++ l)) (ap (λ (z : ℕ). pastMost s z (namedIn s k (members s k))) n ∙ past-many s (namedIn s k (members s k))));
     few = rw (h .count) (counted-few (a .list .n) (namedIn s k (members s k)) (omega (arith, n)));
     list = λ z. h .list z ∙ ap (insertAll (propertiesOf s (members s k))) v;
   })

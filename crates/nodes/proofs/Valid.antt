@@ -1,22 +1,21 @@
 -- The properties of nodes without fault are valid.
 use Prim.Native.Nat.{ℕ}
-use mathlib.Core.Path.{_≡_, refl}
+use mathlib.Core.Path.{_≡_}
 use mathlib.Core.Logic.{_⊎_, inl, inr}
 use mathlib.Core.List.{List, [], _∷_, _++_}
-use mathlib.Core.Bool.{Bool, true, false}
+use mathlib.Core.Bool.{true}
 use Rattle.text.specs.Ids.{isId}
 use Rattle.text.proofs.Bytes.{both}
 use Rattle.json.specs.Members.{Member}
-use Rattle.faults.specs.Faults.{Fault, wrongKind}
 use Rattle.faults.proofs.Laws.{both-none}
 use Rattle.fields.specs.Values.{stringBytes, nameOf, isObject, members}
-use Rattle.fields.specs.Fields.{field, membersIn, among, ofKind, fieldFaults, nameFaults, entryFaults}
+use Rattle.fields.specs.Fields.{field, membersIn, among, ofKind, fieldFaults, nameFaults}
 use Rattle.fields.specs.declared.Field.{Field}
 use Rattle.fields.specs.declared.Field.the-variants.{Absent, First}
 use Rattle.fields.specs.declared.Kind.the-variants.{Text, Object}
 use Rattle.fields.specs.declared.Owner.the-variants as owner
 use Rattle.fields.proofs.Names.{Entry, entry, among-first, among-rest}
-use Rattle.properties.specs.Property.{Property, propertyFaults, propertyAt}
+use Rattle.properties.specs.Property.{Property, propertyFaults}
 use Rattle.properties.specs.Valid.{Valid, In, here, later}
 use Rattle.properties.proofs.Lists.{in-none, in-append}
 use Rattle.properties.proofs.Theorems.{valid}
@@ -74,4 +73,4 @@ module _ (s : List ℕ) where
     pub in-nodes : (f : Field) → nodesFaults s f ≡ [] → In p (propertiesOf s (membersIn s f)) → Valid p
     unfolding nodesFaults membersIn propertiesOf
     in-nodes Absent h i = in-none i
-    in-nodes (First k) h i = of-nodes k (members s k) (both-none (among (nodeMember s k) (members s k)) (tooMany (namedIn s k (members s k))) h .0) i
+    in-nodes (First k) h i = of-nodes k (members s k) (both-none (among (nodeMember s k) (members s k)) (tooMany s (namedIn s k (members s k))) h .0) i

@@ -1,4 +1,4 @@
--- The nodes of a description (paper 01, "The description"): their faults, and the properties that they declare.
+-- The nodes of a description (paper 01, "The description"; paper 02, K4): their faults, and the properties that they declare.
 use Prim.Native.Nat.{ℕ}
 use mathlib.Core.List.{List, [], _∷_, _++_}
 use mathlib.Core.Bool.{Bool, true, false}
@@ -6,7 +6,7 @@ use lib.ListN.{drop}
 use Rattle.json.specs.Members.{Member}
 use Rattle.faults.specs.Faults.{Fault, otherRule}
 use Rattle.fields.specs.Values.{isObject, members}
-use Rattle.fields.specs.Fields.{field, membersIn, ofKind, among, fieldFaults, nameFaults, comesFirst, entryFaults}
+use Rattle.fields.specs.Fields.{field, membersIn, ofKind, among, fieldFaults, nameFaults, comesFirst, entryFaults, decodedFaults}
 use Rattle.fields.specs.declared.Field.{Field}
 use Rattle.fields.specs.declared.Field.the-variants.{Absent, First}
 use Rattle.fields.specs.declared.Kind.the-variants.{Text, Object}
@@ -51,14 +51,18 @@ unfoldable pub namedIn : List ℕ → ℕ → List Member → List Member
 namedIn s at [] = []
 namedIn s at (n ∷ ns) = namedBy s (comesFirst s at n) (n .value) ++ namedIn s at ns
 
--- "At most 24 properties in all.": "the 25th property's ID for too many", and each one past it, whatever its value
-unfoldable pub tooMany : List Member → List Fault
-tooMany ms = among (λ m. otherRule (m .name) ∷ []) (drop propertiesMost ms)
+-- "the 25th property's ID for too many", the string at k; with half a surrogate pair "no other rule is applied to that string"
+unfoldable pub tooManyAt : List ℕ → ℕ → List Fault
+tooManyAt s k = decodedFaults s k (λ t. otherRule k ∷ [])
+
+-- "At most 24 properties in all.": the 25th, and each one past it, whatever its value
+unfoldable pub tooMany : List ℕ → List Member → List Fault
+tooMany s ms = among (λ m. tooManyAt s (m .name)) (drop propertiesMost ms)
 
 -- the nodes in the object that a field holds
 unfoldable pub nodesFaults : List ℕ → Field → List Fault
 nodesFaults s Absent = []
-nodesFaults s (First k) = among (nodeMember s k) (members s k) ++ tooMany (namedIn s k (members s k))
+nodesFaults s (First k) = among (nodeMember s k) (members s k) ++ tooMany s (namedIn s k (members s k))
 
 -- the properties that these members declare, of the node whose ID is the string at `node`
 unfoldable pub propertiesAmong : List ℕ → ℕ → List Member → List Property

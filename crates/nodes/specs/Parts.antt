@@ -5,7 +5,7 @@ use mathlib.Core.List.{List, [], _∷_, _++_}
 use mathlib.Core.Bool.{true, false}
 use lib.Dec.{ltb}
 use Rattle.json.specs.Members.{Member}
-use Rattle.faults.specs.Faults.{Fault, earlier, least, otherRule, _otherwise_}
+use Rattle.faults.specs.Faults.{Fault, earlier, least}
 use Rattle.faults.specs.declared.Told.{Told}
 use Rattle.faults.specs.declared.Told.the-variants.{Nothing}
 use Rattle.fields.specs.Fields.{fieldFaults}
@@ -15,6 +15,7 @@ use Rattle.properties.specs.Property.{Property, insertAll}
 use Rattle.properties.specs.declared.Entries.{Entries}
 use Rattle.properties.specs.Entries.{propertiesMost, view}
 use Rattle.nodes.specs.declared.Listed.{Listed}
+use Rattle.nodes.specs.Nodes.{tooManyAt}
 
 -- the member whose name is at i, whose value stands from k to e
 abbrev pub itemOf : ℕ → ℕ → ℕ → Member
@@ -25,10 +26,14 @@ unfoldable pub counted : ℕ → List Member → ℕ
 counted n [] = n
 counted n (m ∷ ms) = elim (ltb n propertiesMost) [ true ↦ counted (suc n) ms | false ↦ n ]
 
--- properties past the 24th, n of them counted before
-unfoldable pub pastMost : ℕ → List Member → List Fault
-pastMost n [] = []
-pastMost n (m ∷ ms) = (ltb n propertiesMost otherwise otherRule (m .name)) ++ pastMost (counted n (m ∷ [])) ms
+-- a property whose ID is at k, n of them counted before
+unfoldable pub pastMostAt : List ℕ → ℕ → ℕ → List Fault
+pastMostAt s n k = elim (ltb n propertiesMost) [ true ↦ [] | false ↦ tooManyAt s k ]
+
+-- properties past the 24th
+unfoldable pub pastMost : List ℕ → ℕ → List Member → List Fault
+pastMost s n [] = []
+pastMost s n (m ∷ ms) = pastMostAt s n (m .name) ++ pastMost s (counted n (m ∷ [])) ms
 
 -- a list, and what is told so far
 abbrev pub lists : Told → Entries → Listed
@@ -36,7 +41,7 @@ lists told list = record { told = told; list = list }
 
 -- these faults and these properties more: what is told of them besides, and if nothing is, the list with the properties put in
 pub record Adds (faults : List Fault) (named : List Member) (ps : List Property) (s : List ℕ) (before after : Listed) : Type 0 where
-  pub told : after .told ≡ earlier (before .told) (least (faults ++ pastMost (before .list .n) named))
+  pub told : after .told ≡ earlier (before .told) (least (faults ++ pastMost s (before .list .n) named))
   pub count : after .list .n ≡ counted (before .list .n) named
   pub list : after .told ≡ Nothing → view s (after .list) ≡ insertAll ps (view s (before .list))
 

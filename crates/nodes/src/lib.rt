@@ -13,18 +13,16 @@ ghost use mathlib.Core.Path.{_≡_};
 ghost use mathlib.Core.Bool.{true, false};
 ghost use mathlib.Core.List.{[], _∷_, _++_};
 ghost use Prim.Native.Nat.{ℕ};
-ghost use lib.Dec.{ltb};
-ghost use Rattle.faults.specs.Faults.{least, otherRule, repeated, _otherwise_};
+ghost use Rattle.faults.specs.Faults.{least, repeated};
 ghost use Rattle.json.specs.Ends.{Ends};
 ghost use Rattle.fields.specs.Values.{members};
 ghost use Rattle.fields.specs.Fields.{field, membersIn, among};
 ghost use Rattle.fields.specs.Known.{IsMember};
 ghost use Rattle.properties.specs.Property.{propertyFaults, propertyAt, insertAll};
-ghost use Rattle.properties.specs.Entries.{propertiesMost};
 ghost use Rattle.properties.specs.Judged.{Judges};
 ghost use Rattle.nodes.specs.Names.{properties};
 ghost use Rattle.nodes.specs.Nodes.{propertyMember, each, nodeFaults, nodeMember, namedIn, nodesFaults, propertiesAmong, propertiesOf};
-ghost use Rattle.nodes.specs.Parts.{itemOf, lists, pastMost, Adds, seenFaults};
+ghost use Rattle.nodes.specs.Parts.{itemOf, lists, pastMostAt, pastMost, Adds, seenFaults};
 ghost use Rattle.nodes.specs.Listed.{Lists};
 
 // Nodes judged: what is told of their faults, and if there is none, the list with their properties put in.
@@ -34,13 +32,16 @@ pub struct Listed {
 }
 
 // What is told of a property whose ID is at `i`, with n before it.
-fn past_most(n: usize, i: usize) -> Told
-    ensures { λ r. ⌜ r ≡ least (ltb n propertiesMost otherwise otherRule i) ⌝ }
+fn past_most(s: &[u8], n: usize, i: usize, ends: &[u16]) -> Told
+    ensures { λ r. ⌜ (Ends (now (s .entry)) (now (ends .entry)) → r ≡ least (pastMostAt (now (s .entry)) n i)) ⌝ }
 {
     if n < properties::MOST {
         return Told::Nothing;
     }
-    Told::At(i, OTHER_RULE)
+    match fields::half_told(s, i, ends) {
+        Told::Nothing => Told::At(i, OTHER_RULE),
+        Told::At(half, number) => Told::At(half, number),
+    }
 }
 
 // The value at `k` of a property whose own ID is at `id`, of the node whose ID is at `node`: judged if it is the first of its name.
@@ -66,12 +67,12 @@ fn property_member(
     n: usize,
     ends: &[u16],
 ) -> Judged
-    ensures { λ r. ⌜ (Ends (now (s .entry)) (now (ends .entry)) → IsMember (now (s .entry)) i k → (e : ℕ) → Judges (propertyMember (now (s .entry)) at (itemOf i k e) ++ pastMost n (itemOf i k e ∷ [])) (propertyAt (now (s .entry)) node i k) (now (s .entry)) r) ⌝ }
+    ensures { λ r. ⌜ (Ends (now (s .entry)) (now (ends .entry)) → IsMember (now (s .entry)) i k → (e : ℕ) → Judges (propertyMember (now (s .entry)) at (itemOf i k e) ++ pastMost (now (s .entry)) n (itemOf i k e ∷ [])) (propertyAt (now (s .entry)) node i k) (now (s .entry)) r) ⌝ }
 {
     let p = property_value(s, fields::comes_first(s, at, i, k, ends), node, i, k, ends);
     let value = p.told;
     let entry = p.entry;
-    let named = faults::earlier(fields::id_name_told(s, i, ends), past_most(n, i));
+    let named = faults::earlier(fields::id_name_told(s, i, ends), past_most(s, n, i, ends));
     Judged {
         told: faults::earlier(named, value),
         entry: entry,

@@ -5,46 +5,90 @@ use native.Mathlib.Numerals.{add-one}
 use native.Mathlib.Omega.{arith}
 use mathlib.Core.Path.{_≡_, refl, sym, ap, _∙_}
 use mathlib.Core.List.{List, [], _∷_, _++_}
-use mathlib.Core.Bool.{Bool, true, false, _||_, true≢false}
+use mathlib.Core.Bool.{Bool, true, false, _&&_, _||_, true≢false}
 use lib.ListN.{length, take, drop, getD, set, length-set}
 use lib.Seq.{drop-cons, take-suc, take-suc-set, drop-set-lt, append-snoc}
-use Rattle.text.specs.Bytes.{eqBytes, lessBytes}
-use Rattle.text.proofs.Bytes.{both, eqBytes-refl}
-use Rattle.text.proofs.Order.{less-irreflexive}
-use Rattle.fields.specs.Values.{stringBytes}
+use Rattle.text.specs.Bytes.{lessBytes}
+use Rattle.text.proofs.Bytes.{both, and-both, eqBytes-refl, eqBytes-yes, eqBytes-no}
+use Rattle.text.proofs.Order.{less-irreflexive, less-total}
+use Rattle.json.specs.Strings.{rawBytes, isPlain}
+use Rattle.escapes.specs.Decode.{bytesOf, written}
+use Rattle.escapes.proofs.Theorems as decoding
+use Rattle.fields.specs.Values.{decodedAt, stringBytes}
 use Rattle.properties.specs.declared.Entry.{Entry}
 use Rattle.properties.specs.declared.Entries.{Entries}
 use Rattle.properties.specs.Property.{Property, isBefore, insert}
-use Rattle.properties.specs.Parts.{stands}
+use Rattle.properties.specs.Parts.{BothPlain, Fetched, stands}
 use Rattle.properties.specs.Entries.{content, contents, view, Inserted}
 
 -- ---- the order
 
-module _ (s : List ℕ) (a b c d : ℕ) {node id : List ℕ} (p : node ≡ stringBytes s a) (q : id ≡ stringBytes s b) where
-  -- of one node
-  pub before-own : {u : List ℕ} {r : Bool} → a ≡ c → u ≡ stringBytes s d → r ≡ lessBytes id u → r ≡ stands s a b c d
-  unfolding stands
-  before-own e v z = z ∙ rw (q, v, e, less-irreflexive (stringBytes s c), eqBytes-refl (stringBytes s c))
+-- the string at k by its bytes as sent
+text-written : (s : List ℕ) (k : ℕ) → written (rawBytes s k) ≡ stringBytes s k
+unfolding stringBytes decodedAt written
+text-written s k = refl
 
-  module _ {t : List ℕ} (v : t ≡ stringBytes s c) {l : Bool} (e : l ≡ lessBytes node t) where
+pub precedes-plain : (a b : List ℕ) {plain r : Bool} → BothPlain a b plain → plain ≡ true → r ≡ lessBytes a b → r ≡ lessBytes (written a) (written b)
+unfolding written bytesOf
+precedes-plain a b w q x = x ∙ sym (rw (decoding.plain a (w .first q), decoding.plain b (w .second q)))
+
+module _ {a b : List ℕ} {x y : Bool} (v : x ≡ isPlain b) (w : y ≡ true → isPlain a ≡ true) where
+  flagged : BothPlain a b (x && y)
+  flagged = record { first = λ q. w (and-both x y q .1); second = λ q. sym v ∙ and-both x y q .0 }
+
+  flagged-back : BothPlain b a (x && y)
+  flagged-back = record { first = flagged .second; second = flagged .first }
+
+pub id-before : (s : List ℕ) (d : ℕ) {id other : List ℕ} {x y r : Bool} → other ≡ rawBytes s d → x ≡ isPlain (rawBytes s d) → (y ≡ true → isPlain id ≡ true)
+    → (BothPlain id other (x && y) → r ≡ lessBytes (written id) (written other)) → r ≡ lessBytes (written id) (stringBytes s d)
+id-before s d {id} o v w f = f (flagged (v ∙ ap isPlain (sym o)) w) ∙ ap (lessBytes (written id)) (ap written o ∙ text-written s d)
+
+pub both-plain : (s : List ℕ) (a b : ℕ) {node id : List ℕ} {x y : Bool} → node ≡ rawBytes s a → id ≡ rawBytes s b → x ≡ isPlain (rawBytes s a) → y ≡ isPlain (rawBytes s b) → Fetched s a b node id (x && y)
+both-plain s a b {x = x} {y = y} p q v w = record {
+  node-sent = p;
+  id-sent = q;
+  both = record { first = λ e. ap isPlain p ∙ (sym v ∙ and-both x y e .0); second = λ e. ap isPlain q ∙ (sym w ∙ and-both x y e .1) };
+}
+
+module _ (s : List ℕ) (a b c d : ℕ) {node id : List ℕ} {plain : Bool} (w : Fetched s a b node id plain) where
+  node-is : written node ≡ stringBytes s a
+  node-is = ap written (w .node-sent) ∙ text-written s a
+
+  ids : {r : Bool} → r ≡ lessBytes (written id) (stringBytes s d) → r ≡ lessBytes (stringBytes s b) (stringBytes s d)
+  ids z = z ∙ ap (λ (t : List ℕ). lessBytes t (stringBytes s d)) (ap written (w .id-sent) ∙ text-written s b)
+
+  -- of one node
+  pub before-own : {r : Bool} → a ≡ c → r ≡ lessBytes (written id) (stringBytes s d) → r ≡ stands s a b c d
+  unfolding stands
+  before-own e z = ids z ∙ rw (e, less-irreflexive (stringBytes s c), eqBytes-refl (stringBytes s c))
+
+  module _ {other : List ℕ} {x l : Bool} (o : other ≡ rawBytes s c) (v : x ≡ isPlain (rawBytes s c)) (e : BothPlain node other (x && plain) → l ≡ lessBytes (written node) (written other)) where
+    other-is : written other ≡ stringBytes s c
+    other-is = ap written o ∙ text-written s c
+
+    sent-plain : x ≡ isPlain other
+    sent-plain = v ∙ ap isPlain (sym o)
+
     less : l ≡ lessBytes (stringBytes s a) (stringBytes s c)
-    less = e ∙ rw (p, v)
+    less = e (flagged sent-plain (w .both .first)) ∙ rw (node-is, other-is)
 
     pub before-yes : l ≡ true → true ≡ stands s a b c d
     unfolding stands
     before-yes h = rw (sym less ∙ h)
 
-    module _ (h : l ≡ false) {m : Bool} (f : m ≡ eqBytes node t) where
-      eq : m ≡ eqBytes (stringBytes s a) (stringBytes s c)
-      eq = f ∙ rw (p, v)
+    module _ (h : l ≡ false) {m : Bool} (f : BothPlain other node (x && plain) → m ≡ lessBytes (written other) (written node)) where
+      more : m ≡ lessBytes (stringBytes s c) (stringBytes s a)
+      more = f (flagged-back sent-plain (w .both .first)) ∙ rw (node-is, other-is)
 
-      pub before-no : m ≡ false → false ≡ stands s a b c d
+      pub before-no : m ≡ true → false ≡ stands s a b c d
       unfolding stands
-      before-no k = rw (sym less ∙ h, sym eq ∙ k)
+      before-no k =
+          let n : stringBytes s a ≡ stringBytes s c → ⊥ = λ p. true≢false (sym k ∙ (more ∙ (ap (lessBytes (stringBytes s c)) p ∙ less-irreflexive (stringBytes s c)))) in
+          rw (sym less ∙ h, eqBytes-no (stringBytes s a) (stringBytes s c) n)
 
-      pub before-ids : {u : List ℕ} {r : Bool} → m ≡ true → u ≡ stringBytes s d → r ≡ lessBytes id u → r ≡ stands s a b c d
+      pub before-ids : {r : Bool} → m ≡ false → r ≡ lessBytes (written id) (stringBytes s d) → r ≡ stands s a b c d
       unfolding stands
-      before-ids k w z = z ∙ rw (sym less ∙ h, sym eq ∙ k, q, w)
+      before-ids k z = ids z ∙ rw (sym less ∙ h, eqBytes-yes (stringBytes s a) (stringBytes s c) (less-total (stringBytes s a) (stringBytes s c) (sym less ∙ h) (sym more ∙ k)))
 
 -- ---- the insertion: the entries before j are in place, the carried one goes in among the rest
 

@@ -1,4 +1,5 @@
 // The properties that a description declares, in the order of node ID and property ID. Answers are right if the table of ends is.
+use escapes::Decoding;
 use faults::MISSING;
 use faults::OTHER_RULE;
 use faults::Told;
@@ -11,20 +12,25 @@ use payload::Datatype;
 use payload::Format;
 use payload::Named;
 ghost use mathlib.Core.Path.{_≡_};
-ghost use mathlib.Core.Bool.{_||_};
+ghost use mathlib.Core.Bool.{true, _||_};
 ghost use mathlib.Core.List.{List, []};
 ghost use mathlib.Core.Option.{some};
 ghost use Rattle.fields.specs.declared.Field.the-variants.{Absent, First};
 ghost use Prim.Native.Nat.{ℕ};
 ghost use Rattle.faults.specs.Faults.{least};
-ghost use Rattle.payload.specs.Datatypes.{named};
+ghost use Rattle.payload.specs.Datatypes.{datatypeNamed, named};
 ghost use Rattle.payload.specs.Formats.{keptBytes};
+ghost use Rattle.ranges.specs.Ranges.{isSome};
+ghost use Rattle.text.specs.Bytes.{lessBytes};
 ghost use Rattle.json.specs.Ends.{Ends};
+ghost use Rattle.json.specs.Strings.{isPlain};
+ghost use Rattle.escapes.specs.Decode.{written};
 ghost use Rattle.fields.specs.Values.{stringBytes};
-ghost use Rattle.properties.specs.Property.{fitsDatatype, typeOf, propertyFieldFaults, propertyFaults, propertyAt};
+ghost use Rattle.fields.specs.Fields.{decodedFaults};
+ghost use Rattle.properties.specs.Property.{datatypeIn, datatypeRule, datatypeFaults, formatRule, isKept, typeOf, propertyFieldFaults, propertyFaults, propertyAt};
 ghost use Rattle.fields.specs.Known.{Knows};
 ghost use Rattle.fields.specs.declared.Owner.the-variants as owner;
-ghost use Rattle.properties.specs.Parts.{stands, textFaults, flagFaults, ReadsType, ReadsFormat};
+ghost use Rattle.properties.specs.Parts.{BothPlain, Fetched, stands, ReadsType, JudgesFormat, ReadsFormat, textFaults, flagFaults};
 ghost use Rattle.properties.specs.Judged.{Judges};
 ghost use Rattle.properties.specs.Entries.{content, view, Inserted};
 
@@ -65,21 +71,50 @@ pub struct FormatRead {
     pub kept: Format,
 }
 
-// Whether the property with these two IDs, the first at `a`, stands before the one whose IDs are at `c` and `d`.
-fn is_before(s: &[u8], a: usize, node: &[u8], id: &[u8], c: usize, d: usize, ends: &[u16]) -> bool
-    ensures { λ r. ⌜ ((b : ℕ) → now (node .entry) ≡ stringBytes (now (s .entry)) a → now (id .entry) ≡ stringBytes (now (s .entry)) b → Ends (now (s .entry)) (now (ends .entry)) → r ≡ stands (now (s .entry)) a b c d) ⌝ }
+// Whether what `a` writes stands before what `b` writes; `plain` tells that neither has a backslash.
+fn precedes(a: &[u8], b: &[u8], plain: bool) -> bool
+    ensures { λ r. ⌜ (BothPlain (now (a .entry)) (now (b .entry)) plain → r ≡ lessBytes (written (now (a .entry))) (written (now (b .entry)))) ⌝ }
+{
+    if plain {
+        return text::precedes(a, b);
+    }
+    escapes::precedes(a, b)
+}
+
+// Whether what `id` writes stands before the string at `d`; `plain` tells that `id` has no backslash.
+fn id_precedes(s: &[u8], id: &[u8], plain: bool, d: usize, ends: &[u16]) -> bool
+    ensures { λ r. ⌜ (Ends (now (s .entry)) (now (ends .entry)) → (plain ≡ true → isPlain (now (id .entry)) ≡ true) → r ≡ lessBytes (written (now (id .entry))) (stringBytes (now (s .entry)) d)) ⌝ }
+{
+    let other = fields::raw_bytes_by(s, d, ends);
+    precedes(id, other, json::is_plain_by(s, d, ends) & plain)
+}
+
+// Whether the property with these two IDs, the first at `a`, stands before the one whose IDs are at `c` and `d`; `plain` tells that neither of the two has a
+// backslash.
+fn is_before(
+    s: &[u8],
+    a: usize,
+    node: &[u8],
+    id: &[u8],
+    plain: bool,
+    c: usize,
+    d: usize,
+    ends: &[u16],
+) -> bool
+    ensures { λ r. ⌜ (Ends (now (s .entry)) (now (ends .entry)) → (b : ℕ) → Fetched (now (s .entry)) a b (now (node .entry)) (now (id .entry)) plain → r ≡ stands (now (s .entry)) a b c d) ⌝ }
 {
     if a == c {
-        return text::precedes(id, fields::string_bytes_by(s, d, ends));
+        return id_precedes(s, id, plain, d, ends);
     }
-    let other = fields::string_bytes_by(s, c, ends);
-    if text::precedes(node, other) {
+    let other = fields::raw_bytes_by(s, c, ends);
+    let neither = json::is_plain_by(s, c, ends) & plain;
+    if precedes(node, other, neither) {
         return true;
     }
-    if text::same(node, other) {
-        return text::precedes(id, fields::string_bytes_by(s, d, ends));
+    if precedes(other, node, neither) {
+        return false;
     }
-    false
+    id_precedes(s, id, plain, d, ends)
 }
 
 // Whether it does, or is in its place already.
@@ -89,16 +124,17 @@ fn takes_place(
     a: usize,
     node: &[u8],
     id: &[u8],
+    plain: bool,
     c: usize,
     d: usize,
     ends: &[u16],
 ) -> bool
-    ensures { λ r. ⌜ ((b : ℕ) → now (node .entry) ≡ stringBytes (now (s .entry)) a → now (id .entry) ≡ stringBytes (now (s .entry)) b → Ends (now (s .entry)) (now (ends .entry)) → r ≡ (placed || stands (now (s .entry)) a b c d)) ⌝ }
+    ensures { λ r. ⌜ (Ends (now (s .entry)) (now (ends .entry)) → (b : ℕ) → Fetched (now (s .entry)) a b (now (node .entry)) (now (id .entry)) plain → r ≡ (placed || stands (now (s .entry)) a b c d)) ⌝ }
 {
     if placed {
         return true;
     }
-    is_before(s, a, node, id, c, d, ends)
+    is_before(s, a, node, id, plain, c, d, ends)
 }
 
 // An entry that declares nothing, for the property with these IDs.
@@ -136,8 +172,9 @@ pub fn insert(s: &[u8], e: Entry, l: Entries, ends: &[u16]) -> Entries
     if n >= MOST {
         return l;
     }
-    let node = fields::string_bytes_by(s, e.node, ends);
-    let id = fields::string_bytes_by(s, e.id, ends);
+    let node = fields::raw_bytes_by(s, e.node, ends);
+    let id = fields::raw_bytes_by(s, e.id, ends);
+    let plain = json::is_plain_by(s, e.node, ends) & json::is_plain_by(s, e.id, ends);
     let mut carry = e;
     let mut placed = false;
     let mut j = 0;
@@ -145,7 +182,7 @@ pub fn insert(s: &[u8], e: Entry, l: Entries, ends: &[u16]) -> Entries
         let y = items[j];
         let i = j;
         j += 1;
-        placed = takes_place(s, placed, e.node, node, id, y.node, y.id, ends);
+        placed = takes_place(s, placed, e.node, node, id, plain, y.node, y.id, ends);
         if placed {
             let x = items[i];
             items[i] = carry;
@@ -159,9 +196,48 @@ pub fn insert(s: &[u8], e: Entry, l: Entries, ends: &[u16]) -> Entries
     }
 }
 
+// The datatype that the bytes `t` of a string at `value` name.
+fn type_named(value: usize, t: &[u8]) -> TypeRead
+    ensures { λ r. ⌜ ReadsType (datatypeRule value (now (t .entry))) (datatypeNamed (now (t .entry))) r ⌝ }
+{
+    let name = payload::read_datatype(t);
+    match name {
+        Named::Unknown => TypeRead {
+            told: Told::At(value, OTHER_RULE),
+            named: name,
+        },
+        Named::Known(_) => TypeRead {
+            told: Told::Nothing,
+            named: name,
+        },
+    }
+}
+
+// The datatype that the string at `k` names, decoded.
+fn decoded_type(s: &[u8], k: usize) -> TypeRead
+    ensures { λ r. ⌜ ReadsType (decodedFaults (now (s .entry)) k (datatypeRule k)) (datatypeNamed (stringBytes (now (s .entry)) k)) r ⌝ }
+{
+    let mut name = [0u8; 16];
+    match fields::decode_at(s, k, &mut name) {
+        Decoding::Half(p) => TypeRead {
+            told: Told::At(p, OTHER_RULE),
+            named: Named::Unknown,
+        },
+        Decoding::Whole(n) => {
+            if n > 16 {
+                return TypeRead {
+                    told: Told::At(k, OTHER_RULE),
+                    named: Named::Unknown,
+                };
+            }
+            type_named(k, text::slice(&name, 0, n))
+        }
+    }
+}
+
 // The datatype that a field names, of the property whose object is at `at`.
 fn datatype_of(s: &[u8], at: usize, f: Field, ends: &[u16]) -> TypeRead
-    ensures { λ r. ⌜ (Ends (now (s .entry)) (now (ends .entry)) → ReadsType (now (s .entry)) at f r) ⌝ }
+    ensures { λ r. ⌜ (Ends (now (s .entry)) (now (ends .entry)) → ReadsType (datatypeFaults (now (s .entry)) at f) (datatypeIn (now (s .entry)) f) r) ⌝ }
 {
     let Field::First(value) = f else {
         let close = fields::close_of(s, at, ends);
@@ -176,12 +252,9 @@ fn datatype_of(s: &[u8], at: usize, f: Field, ends: &[u16]) -> TypeRead
             named: Named::Unknown,
         };
     }
-    let name = payload::read_datatype(fields::string_bytes_by(s, value, ends));
+    let name = payload::read_datatype(fields::raw_bytes_by(s, value, ends));
     match name {
-        Named::Unknown => TypeRead {
-            told: Told::At(value, OTHER_RULE),
-            named: name,
-        },
+        Named::Unknown => decoded_type(s, value),
         Named::Known(_) => TypeRead {
             told: Told::Nothing,
             named: name,
@@ -189,16 +262,58 @@ fn datatype_of(s: &[u8], at: usize, f: Field, ends: &[u16]) -> TypeRead
     }
 }
 
-// Whether the format `t` is kept, by what is kept of it: it is valid and what is kept has no backslash.
-fn fits_datatype(t: &[u8], kept: Format) -> bool
-    ensures { λ r. ⌜ r ≡ fitsDatatype (keptBytes (now (t .entry)) kept) ⌝ }
+// Whether the datatype's format is kept.
+fn is_kept(d: Datatype) -> bool
+    ensures { λ r. ⌜ r ≡ isKept d ⌝ }
 {
-    match kept {
-        Format::Bad => false,
-        Format::AsGiven => fields::is_plain(t),
-        Format::Colon => true,
-        Format::FalseTrue => true,
-        Format::NotKept => true,
+    match d {
+        Datatype::String => false,
+        Datatype::Integer => true,
+        Datatype::Float => true,
+        Datatype::Boolean => true,
+        Datatype::Enum => true,
+        Datatype::Color => true,
+        Datatype::Datetime => false,
+        Datatype::Duration => false,
+        Datatype::Json => false,
+    }
+}
+
+// The format whose bytes are `t`, of the string at `place`, for a datatype whose format is kept.
+fn judged_format(d: Datatype, place: usize, t: &[u8]) -> FormatRead
+    ensures { λ r. ⌜ JudgesFormat (formatRule d place (now (t .entry))) r ⌝ }
+{
+    if payload::is_format(d, t) {
+        return FormatRead {
+            told: Told::Nothing,
+            kept: Format::AsGiven,
+        };
+    }
+    FormatRead {
+        told: Told::At(place, OTHER_RULE),
+        kept: Format::Bad,
+    }
+}
+
+// The format in the string at `i`, decoded, for such a datatype.
+fn decoded_format(s: &[u8], d: Datatype, i: usize) -> FormatRead
+    ensures { λ r. ⌜ (isKept d ≡ true → JudgesFormat (decodedFaults (now (s .entry)) i (formatRule d i)) r) ⌝ }
+{
+    let mut format = [0u8; payload::FORMAT_MOST];
+    match fields::decode_at(s, i, &mut format) {
+        Decoding::Half(half) => FormatRead {
+            told: Told::At(half, OTHER_RULE),
+            kept: Format::Bad,
+        },
+        Decoding::Whole(n) => {
+            if n > payload::FORMAT_MOST {
+                return FormatRead {
+                    told: Told::At(i, OTHER_RULE),
+                    kept: Format::Bad,
+                };
+            }
+            judged_format(d, i, text::slice(&format, 0, n))
+        }
     }
 }
 
@@ -212,17 +327,30 @@ fn given_format(s: &[u8], d: Datatype, place: usize, ends: &[u16]) -> FormatRead
             kept: Format::NotKept,
         };
     }
-    let t = fields::string_bytes_by(s, place, ends);
-    let kept = payload::judge_format(d, true, t);
-    if !fits_datatype(t, kept) {
+    if !is_kept(d) {
         return FormatRead {
-            told: Told::At(place, OTHER_RULE),
-            kept: kept,
+            told: Told::Nothing,
+            kept: Format::NotKept,
         };
     }
-    FormatRead {
-        told: Told::Nothing,
-        kept: kept,
+    let raw = fields::raw_bytes_by(s, place, ends);
+    let unescaped = json::is_plain_by(s, place, ends);
+    if unescaped {
+        return judged_format(d, place, raw);
+    }
+    decoded_format(s, d, place)
+}
+
+// Whether a format is valid, by what is kept of it.
+fn is_valid(kept: Format) -> bool
+    ensures { λ r. ⌜ ((t : List ℕ) → r ≡ isSome (keptBytes t kept)) ⌝ }
+{
+    match kept {
+        Format::Bad => false,
+        Format::AsGiven => true,
+        Format::Colon => true,
+        Format::FalseTrue => true,
+        Format::NotKept => true,
     }
 }
 
@@ -231,7 +359,7 @@ fn no_format(s: &[u8], at: usize, d: Datatype, ends: &[u16]) -> FormatRead
     ensures { λ r. ⌜ (Ends (now (s .entry)) (now (ends .entry)) → ReadsFormat (now (s .entry)) at (some d) Absent r) ⌝ }
 {
     let kept = payload::judge_format(d, false, &s[..0]);
-    if !fits_datatype(&s[..0], kept) {
+    if !is_valid(kept) {
         let brace = fields::close_of(s, at, ends);
         return FormatRead {
             told: Told::At(brace, MISSING),

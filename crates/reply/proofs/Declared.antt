@@ -37,9 +37,9 @@ description-shown d v x y z w h g a b c e = rw (h, g, a, b, c, e)
 pub given-told : (s : List ℕ) (f x : Field) → f ≡ x → isGiven s x ≡ isGiven s f
 given-told s f x e = ap (isGiven s) (sym e)
 
-pub given-first : (s t : List ℕ) (f : Field) (k : ℕ) → f ≡ First k → t ≡ stringBytes s k → ltb 0 (length t) ≡ isGiven s f
+pub given-first : (s : List ℕ) (n : ℕ) (f : Field) (k : ℕ) → f ≡ First k → n ≡ length (stringBytes s k) → ltb 0 n ≡ isGiven s f
 unfolding isGiven textOf textIn
-given-first s t f k e h = ap (λ (u : List ℕ). ltb 0 (length u)) h ∙ given-told s f (First k) e
+given-first s n f k e h = ap (ltb 0) h ∙ given-told s f (First k) e
 
 module _ (k : Format) (given : Bool) where
   pub kept-told : (x : Format) → k ≡ x → keptNumber x given ≡ keptNumber k given

@@ -49,6 +49,7 @@ use Rattle.reply.specs.Reply.{Reply, twosComplement, FitsArray}
 use Rattle.reply.specs.Files.{showChecked, eventValues, showReading, stepReply, showStep, showWritten}
 use Rattle.reply.specs.Judgements.{showTopic, showFlag, showNamed, showFormat}
 use Rattle.reply.specs.Descriptions.{entryValues, entryAt, unlessTold, showDescription, showDeclared}
+use Rattle.reply.specs.Strings.{showString}
 use Rattle.reply.specs.Answers.{showOffer, showNumber, showId, showStates, showRelative, showVersion, showProperty, showHeld, showTime}
 use Rattle.reply.proofs.Signed.{read-signed}
 
@@ -136,6 +137,11 @@ description-fits a = either (a .told) _ (omega arith)
 pub declared-fits : (s : List ℕ) (a : declared.Description) (i : ℕ) → FitsArray (showDeclared s a i)
 unfolding showDeclared
 declared-fits s a i = either (a .told) _ (entry-fits s (take (a .properties .n) (a .properties .items)) i)
+
+pub string-fits : (a : Answer (List ℕ)) → FitsArray (showString a)
+unfolding showString
+string-fits (refused k) = omega arith
+string-fits (gives t) = omega arith
 
 -- ---- the table
 

@@ -1,12 +1,14 @@
 // What descriptions declare.
 ghost use mathlib.Core.Path.{_≡_};
-ghost use lib.ListN.{take};
+ghost use lib.ListN.{length, take};
+ghost use Rattle.fields.specs.Values.{stringBytes};
 ghost use Rattle.reply.specs.Reply.{Replied, says};
 ghost use Rattle.reply.specs.Descriptions.{presence, place, isGiven, keptNumber, formatPlace, entryValues, entryAt, fitDescription, showDescription, showDeclared};
 use crate::refusal_code;
 use crate::tell;
 use crate::twos_complement;
 use description::Description;
+use escapes::Decoding;
 use faults::Told;
 use fields::Field;
 use payload::Format;
@@ -53,16 +55,24 @@ pub fn tell_description(out: &mut [u64], d: Description) -> u32
     tell(out, &vs)
 }
 
+// How many bytes the string at `k` has.
+fn string_length(s: &[u8], k: usize) -> usize
+    ensures { λ r. ⌜ r ≡ length (stringBytes (now (s .entry)) k) ⌝ }
+{
+    let mut none = [0u8; 1];
+    match fields::decode_at(s, k, &mut none) {
+        Decoding::Half(_) => 0,
+        Decoding::Whole(n) => n,
+    }
+}
+
 // Whether a format with bytes stands in the text.
 fn is_given(s: &[u8], f: Field) -> bool
     ensures { λ r. ⌜ r ≡ isGiven (now (s .entry)) f ⌝ }
 {
     match f {
         Field::Absent => false,
-        Field::First(k) => {
-            let t = fields::string_bytes(s, k);
-            0 < t.len()
-        }
+        Field::First(k) => 0 < string_length(s, k),
     }
 }
 

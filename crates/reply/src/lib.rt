@@ -10,6 +10,7 @@ pub mod answers;
 pub mod descriptions;
 pub mod files;
 pub mod judgements;
+pub mod strings;
 
 // Places that there is room for: those of 24 bits.
 const PLACES_BELOW: usize = 0x1000000;

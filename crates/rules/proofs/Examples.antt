@@ -19,6 +19,7 @@ use Rattle.json.specs.Members as members
 use Rattle.json.specs.Number as number
 use Rattle.json.specs.Strings as strings
 use Rattle.json.specs.Value as value
+use Rattle.escapes.specs.Decode as escapes
 use Rattle.fields.specs.Fields as fields
 use Rattle.fields.specs.Values as values
 use Rattle.entries.specs.Entries as entries
@@ -47,14 +48,14 @@ unfolding abnf.isEmpty abnf.again abnf.starts abnf.accepts answer.require answer
     strings.plainStep strings.textStep strings.text strings.stringAt value.kindOf value.after value.series value.listOf value.colon value.keyAt value.memberOf value.objectOf
     value.valueOf value.valueAt value.atEnd value.documentOf faults._otherwise_ faults.isEarlier faults.earlier faults.least names.knownNames names.isOneOf names.isKnown
     fields.oneMore fields.fieldIn fields.field fields.isPresent fields.textIn fields.flagIn fields.membersIn fields.ofKind fields.among fields.stringFaults fields.idFaults
-    fields.arrayFaults fields.kindFaults fields.fieldFaults fields.closeAt fields.isFirst fields.comesFirst fields.nameFaultsOf fields.nameFaults fields.entryFaults
-    values.valueBytes values.stringBytes values.isStringAt values.isNumberAt values.isObject values.isTrue values.isFlag values.members values.nameOf values.isPlain
+    fields.arrayFaults fields.kindFaults fields.fieldFaults fields.closeAt fields.unlessHalf fields.decodedFaults fields.idRule fields.isFirst fields.firstOf fields.comesFirst fields.repeatFaults fields.nameFaultsOf fields.nameFaults fields.entryFaults
+    values.valueBytes values.stringBytes values.isStringAt values.isNumberAt values.isObject values.isTrue values.isFlag values.members values.decodedAt values.isNamed strings.rawBytes escapes.join escapes.decodeAfter escapes.bytesOf escapes.isThis
     entries.noneEmpty entries.noRepeats datatypes.datatypeNamed formats.keptFormat payloads.isPayload
-    property.datatypeIn property.isDatatype property.datatypeFaults property.fitsDatatype property.formatFaults property.propertyFieldFaults property.propertyFaults property.typeOf
+    property.datatypeIn property.datatypeRule property.datatypeFaults property.formatRule property.isKept property.givenFaults property.formatFaults property.propertyFieldFaults property.propertyFaults property.typeOf
     property.textOf property.propertyAt property.insert property.insertAll nodes.each nodes.propertyMember nodes.nodeFieldFaults nodes.nodeFaults nodes.nodeMember nodes.namedBy
-    nodes.namedIn nodes.tooMany nodes.nodesFaults nodes.propertiesAmong nodes.propertiesOf places.badPlace places.placeUnless places.badPlaces description.allDigits
-    description.isMinor description.isHomie description.homieFaults description.versionIn description.isNumber description.versionFaults description.otherFaults
-    description.relativeFaults description.rootFaults description.parentFaults description.declared description.deviceFieldFaults description.deviceFaults
+    nodes.namedIn nodes.tooManyAt nodes.tooMany nodes.nodesFaults nodes.propertiesAmong nodes.propertiesOf places.badPlace places.placeUnless places.badPlaces description.allDigits
+    description.isMinor description.isHomie description.homieRule description.homieFaults description.versionIn description.isNumber description.versionFaults description.otherFaults
+    description.relativeFaults description.rootFaults description.parentRule description.parentFaults description.declared description.deviceFieldFaults description.deviceFaults
     description.jsonFaults description.faults description.told description.describedIn description.answered description.describe
     book.from book.answers devices.find devices.change devices.insert devices.isNamed devices.findProperty devices.changeProperty devices.inDescription devices.inDevice
     messages.isEmpty messages.makeOrUpdate messages.byWord messages.obeyState messages.describedBy messages.obeyDescription messages.heldBy messages.fill messages.isValid

@@ -1,7 +1,5 @@
 -- What the refusals of a call of the table pass, and the room for a place that is told.
-use Prim.Native.Nat.{ℕ, _≤_, _<_}
-use native.Mathlib.Nat.{mod-eq-of-lt}
-use native.Mathlib.Omega.{arith}
+use Prim.Native.Nat.{ℕ}
 use mathlib.Core.Path.{_≡_, refl, sym, ap, _∙_, subst}
 use mathlib.Core.List.{List}
 use mathlib.Core.Bool.{Bool, true, false, false≢true}
@@ -27,10 +25,11 @@ use Rattle.lookup.specs.Contract.{Did, Opened, isOpenable, openAnswer}
 use Rattle.table.specs.declared.Outcome.{Outcome}
 use Rattle.table.specs.declared.Outcome.the-variants.{Taken, Refused, Faulty}
 use Rattle.table.specs.Outcome.{said}
-use Rattle.reply.specs.Reply.{Reply, Replied, Numbered, placesBelow, fitPlace}
+use Rattle.reply.specs.Reply.{Reply, Replied, Numbered, fitPlace}
 use Rattle.reply.specs.Reply as reply
 use Rattle.reply.specs.Answers.{outcomeNumber, fitOutcome}
 use Rattle.reply.specs.Descriptions.{fitTold, fitDescription}
+use Rattle.reply.proofs.Said.{short-fits}
 
 -- a call of the table is refused as a state is, or with 6
 module _ (test : Refusal → Bool) (six : test (only 6) ≡ true) (every : (domain : List ℕ) (d : ℕ) (s : State Table) (c : CallOf (rules domain d)) → Passes test (answer (rules domain d) s c)) where
@@ -48,9 +47,6 @@ opened-passes test true p = refl
 opened-passes test false p = p
 
 -- ---- a place that is told has room, and so it is told as it is
-
-short-fits : (p : ℕ) → p ≤ 8192 → fitPlace p ≡ p
-short-fits p h = let l : p < placesBelow = omega (arith, h) in mod-eq-of-lt l
 
 faulty-fits : (k p : ℕ) → isShort (placed k p) ≡ true → fitOutcome (Faulty k p) ≡ Faulty k p
 unfolding fitOutcome

@@ -5,12 +5,19 @@ use mathlib.Core.List.{List, [], _∷_}
 use mathlib.Core.Logic.{_↔_}
 use native.Mathlib.Omega.{arith}
 use lib.ListN.{length, take}
+use lib.Dec.{leb}
 use borrow.Author.Tests.{leb-true}
 use Rattle.answer.specs.Answer.{Refusal, Answer, refused, gives, andThen, placed}
 use Rattle.faults.specs.declared.Told.{Told}
 use Rattle.faults.specs.declared.Told.the-variants.{Nothing, At}
 use Rattle.text.specs.Split.{split}
+use Rattle.text.proofs.Bytes.{both}
 use Rattle.json.specs.Bytes.{ws}
+use Rattle.json.specs.Strings.{stringAt}
+use Rattle.json.specs.declared.Scan.{Scan}
+use Rattle.json.specs.declared.Scan.the-variants.{End, Bad}
+use Rattle.escapes.specs.Decode.{Decoded, whole, half}
+use Rattle.fields.specs.Values.{decodedAt}
 use Rattle.trace.specs.declared.Checked.{Checked}
 use Rattle.trace.specs.declared.Checked.the-variants as checks
 use Rattle.trace.specs.declared.Reading.{Reading}
@@ -62,6 +69,7 @@ use Rattle.reply.specs.Reply.{Reply, isSet, telling, refusalNumber}
 use Rattle.reply.specs.Files.{showChecked, showReading, stepReply, showWritten}
 use Rattle.reply.specs.Judgements.{showTopic, showFlag}
 use Rattle.reply.specs.Descriptions.{entryAt, unlessTold, showDescription, showDeclared}
+use Rattle.reply.specs.Strings.{saidAt, stringFrom, stringIn, showString}
 use Rattle.reply.specs.Answers.{outcomeNumber, showOffer, showNumber, showId, showStates, showRelative, showVersion, showProperty, showHeld, showTime}
 use Rattle.viewer.specs.Calls as calls
 use Rattle.viewer.proofs.Passing.{did-set, opened-passes}
@@ -126,6 +134,20 @@ topic-set domain t = read-levels notZero domain (split slash t) refl refl
 declared-set : (own s : List ℕ) (i : ℕ) → Passes notZero (andThen (describe own s) (λ d. at i (d .properties)))
 declared-set own s i = then notZero (describe own s) _ (described-set own s) (λ d. nth notZero i (d .properties) refl)
 
+said-set : (k : ℕ) (d : Decoded) → Passes notZero (saidAt k d)
+unfolding saidAt
+said-set k (whole t) = refl
+said-set k (half p) = refl
+
+from-set : (s : List ℕ) (k : ℕ) (r : Scan) → Passes notZero (stringFrom s k r)
+unfolding stringFrom
+from-set s k (End e) = said-set k (decodedAt s k)
+from-set s k (Bad e) = refl
+
+string-set : (s : List ℕ) (k : ℕ) → Passes notZero (stringIn s k)
+unfolding stringIn
+string-set s k = both (leb (length s) 8192) (λ e. rw (e, stringIn) (from-set s k (stringAt s k))) (λ e. rw (e, stringIn) refl)
+
 -- ---- what is shown of an answer has its number
 
 checked-number : (a : Checked) → showChecked a .number ≡ refusalNumber (meaningChecked a)
@@ -165,6 +187,11 @@ flag-number : (a : Answer Form) → showFlag a .number ≡ refusalNumber a
 unfolding showFlag refusalNumber telling
 flag-number (refused k) = refl
 flag-number (gives f) = refl
+
+string-number : (a : Answer (List ℕ)) → showString a .number ≡ refusalNumber a
+unfolding showString refusalNumber telling
+string-number (refused k) = refl
+string-number (gives t) = refl
 
 outcome-number : (a : Outcome) → outcomeNumber a ≡ refusalNumber (said a)
 unfolding outcomeNumber refusalNumber telling
@@ -274,6 +301,7 @@ returned (calls.topic-flag domain t) a p = record { same = flag-number a; proper
 returned (calls.description-judge own s) a p = record { same = refl; proper = as-paper p (described-set own s) }
 returned (calls.description-read own s) a p = record { same = description-number own s a p; proper = as-paper p (described-set own s) }
 returned (calls.description-property own s i) a p = record { same = declared-number own s a p i; proper = as-paper (ap (λ (x : Answer Described). andThen x (λ d. at i (d .properties))) p) (declared-set own s i) }
+returned (calls.description-string s k) a p = record { same = string-number a; proper = as-paper p (string-set s k) }
 returned (calls.opening m domain d j m′) a p = record { same = outcome-number a; proper = as-paper (p .answered) (opened-passes notZero (isOpenable domain d j (length m)) refl) }
 returned (calls.message m time t r s m′) a p = record { same = outcome-number a; proper = did-set p }
 returned (calls.step-back m m′) a p = record { same = outcome-number a; proper = did-set p }

@@ -16,6 +16,7 @@ use Rattle.reply.specs.Reply.{refusalNumber}
 use Rattle.reply.specs.Files.{showChecked, showReading, showStep, showWritten}
 use Rattle.reply.specs.Judgements.{showTopic, showFlag}
 use Rattle.reply.specs.Descriptions.{showDescription, showDeclared}
+use Rattle.reply.specs.Strings.{stringIn, showString}
 use Rattle.reply.specs.Answers.{outcomeNumber, showOffer, showNumber, showId, showStates, showRelative, showVersion, showProperty, showHeld, showTime}
 use Rattle.viewer.specs.Promises.{Checks, Empties, Appends, ReadsTopic, ReadsDescription, OpensTable, Sends, StepsBack, OffersSteps, DeviceCount, DeviceAt, StatesOf, RootOf, ParentOf, VersionOf, ValuesHeld, PropertyOf, LaneOf, LastTime}
 
@@ -30,6 +31,7 @@ pub data NumberedCall : (A B : Type 0) → (A → Type 0) → (A → ℕ) → (A
   description-judge : (own text : List ℕ) → NumberedCall _ _ (λ a. a ≡ describe own text) refusalNumber (λ a. a)
   description-read : (own text : List ℕ) → NumberedCall _ _ (ReadsDescription own text) (λ a. showDescription a .number) (descriptions.meaning text)
   description-property : (own text : List ℕ) (i : ℕ) → NumberedCall _ _ (ReadsDescription own text) (λ a. showDeclared text a i .number) (λ a. andThen (descriptions.meaning text a) (λ d. at i (d .properties)))
+  description-string : (text : List ℕ) (place : ℕ) → NumberedCall _ _ (λ a. a ≡ stringIn text place) (λ a. showString a .number) (λ a. a)
   opening : (mem domain : List ℕ) (devices depth : ℕ) (mem′ : List ℕ) → NumberedCall _ _ (OpensTable mem domain devices depth mem′) outcomeNumber said
   message : (mem : List ℕ) (time : ℕ) (topic : List ℕ) (retained : ℕ) (payload mem′ : List ℕ) → NumberedCall _ _ (Sends mem time topic retained payload mem′) outcomeNumber said
   step-back : (mem mem′ : List ℕ) → NumberedCall _ _ (StepsBack mem mem′) outcomeNumber said

@@ -8,6 +8,7 @@ ghost use Rattle.description.specs.Description.{describe};
 ghost use Rattle.reply.specs.Reply.{Told, Replied, refusalNumber, bit, isSet};
 ghost use Rattle.reply.specs.Judgements.{showTopic, showFlag, showNamed, showFormat};
 ghost use Rattle.reply.specs.Descriptions.{showDescription, showDeclared};
+ghost use Rattle.reply.specs.Strings.{stringIn, StringTold};
 ghost use Rattle.viewer.specs.Promises.{ReadsTopic, NamesDatatype, KeepsFormat, ReadsDescription};
 
 // Reads a topic of the table of a domain: its form, and where its byte strings stand.
@@ -89,4 +90,17 @@ pub extern "C" fn homie5_description_property(
 {
     let d = description::describe(own, text);
     reply::descriptions::tell_declared(out, text, d, i)
+}
+
+// The string of a description's text whose opening quote stands at `place`, decoded: its length, and its bytes at the front of a lent buffer if they fit.
+#[no_mangle]
+pub extern "C" fn homie5_description_string(
+    text: &[u8],
+    place: usize,
+    buf: &mut [u8],
+    out: &mut [u64],
+) -> u32
+    ensures { λ r. ⌜ StringTold (stringIn (now (text .entry)) place) (now (out .entry)) (now (buf .entry)) r (now (out .exit)) (now (buf .exit)) ⌝ }
+{
+    reply::strings::tell_string(out, buf, text, place)
 }

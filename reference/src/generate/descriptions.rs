@@ -1,6 +1,7 @@
 //! Descriptions: assembled from fields, with a fault here and there.
 
 use super::edits::edit;
+use super::escapes::{put_half, respelled};
 use super::payloads::{datatype, format, json_value, near_format};
 use super::texts::id;
 use crate::description::{DESCRIPTION_LIMIT, PROPERTY_LIMIT};
@@ -26,10 +27,16 @@ struct Maker<'a> {
 /// Field names with their values as JSON text.
 type Fields = Vec<(String, String)>;
 
-/// A description, valid or not.
+/// A description, valid or not, its strings now and then spelled with escapes.
 pub fn description(random: &mut Random, plan: &Plan) -> Vec<u8> {
     let mut maker = Maker { random, plan };
-    let text = maker.device().into_bytes();
+    let mut text = maker.device().into_bytes();
+    if maker.random.once_in(3) {
+        text = respelled(maker.random, text);
+    }
+    if maker.fault(3) {
+        put_half(maker.random, &mut text);
+    }
     if maker.fault(8) {
         return edit(random, &text);
     }
@@ -53,7 +60,13 @@ pub fn full_description(random: &mut Random, plan: &Plan) -> Vec<u8> {
         let node = |(number, property)| format!(r#""{}":{{"properties":{{{property}}}}}"#, long_id("node", number));
         properties.iter().enumerate().map(node).collect::<Vec<String>>().join(",")
     };
-    format!(r#"{{"homie":"5.0","version":-9223372036854775808{relations},"nodes":{{{nodes}}}}}"#).into_bytes()
+    let text =
+        format!(r#"{{"homie":"5.0","version":-9223372036854775808{relations},"nodes":{{{nodes}}}}}"#).into_bytes();
+    if random.once_in(3) {
+        respelled(random, text)
+    } else {
+        text
+    }
 }
 
 /// A property with a format of 64 bytes, one entry of it 48 bytes long.
@@ -107,7 +120,7 @@ impl Maker<'_> {
     }
 
     fn homie(&mut self) -> String {
-        const BAD: [&str; 10] = ["5", "5.", "5.00", "5.01", "5.1000", "4.0", "5.a", "5.\\u0030", " 5.0", "5.0 "];
+        const BAD: [&str; 10] = ["5", "5.", "5.00", "5.01", "5.1000", "4.0", "5.a", "5.0\\u0000", " 5.0", "5.0 "];
         let text = self.choose(&["5.0", "5.1", "5.10", "5.999"], &BAD);
         if self.fault(1) {
             "5.0".to_string()
@@ -150,7 +163,7 @@ impl Maker<'_> {
             let good = ["[]", "[\"a\"]", "[\"a\",\"b\",\"a\"]", "[ \"-\" ]"];
             fields.push((
                 "children".to_string(),
-                self.choose(&good, &["\"a\"", "[\"A\"]", "[\"\\u0061\"]", "[1]", "[\"\"]", "null"]),
+                self.choose(&good, &["\"a\"", "[\"A\"]", "[\"\\u0041\"]", "[1]", "[\"\"]", "null"]),
             ));
         }
         if self.random.once_in(5) {
@@ -178,7 +191,7 @@ impl Maker<'_> {
             return quoted(self.plan.own);
         }
         if self.fault(1) {
-            return self.random.pick(&["null", "\"\"", "\"A\"", "\"\\u0061\"", "1"]).to_string();
+            return self.random.pick(&["null", "\"\"", "\"A\"", "\"\\u0041\"", "1"]).to_string();
         }
         let usual = &self.plan.others[..1];
         let other = self.random.mostly(3, usual, self.plan.others);
@@ -216,7 +229,7 @@ impl Maker<'_> {
     /// IDs that differ for different numbers, mostly.
     fn item_id(&mut self, number: usize) -> String {
         if self.fault(1) {
-            return self.random.pick(&["", "A", "$a", "p0", "\\u0061", "a_b"]).to_string();
+            return self.random.pick(&["", "A", "$a", "p0", "\\u0041", "a_b"]).to_string();
         }
         if self.random.once_in(12) {
             let mut long = id(self.random);
@@ -263,7 +276,7 @@ impl Maker<'_> {
         if self.fault(1) {
             return self
                 .random
-                .pick(&["null", "\"text\"", "\"Integer\"", "\"\"", "\"jso\\u006e\"", "\"number\""])
+                .pick(&["null", "\"text\"", "\"Integer\"", "\"\"", "\"jso\\u004e\"", "\"number\""])
                 .to_string();
         }
         quoted(datatype.word().as_bytes())
@@ -272,7 +285,7 @@ impl Maker<'_> {
     /// Formats that other rules refuse are left to the judge of formats.
     fn format_text(&mut self, datatype: Datatype) -> String {
         if self.fault(1) {
-            return self.random.pick(&["null", "1", "\"a\\u002cb\"", "\"\\n\"", "[]"]).to_string();
+            return self.random.pick(&["null", "1", "\"a\\u002ca\"", "\"\\n\"", "[]"]).to_string();
         }
         if self.fault(2) {
             return quoted(&near_format(self.random, datatype));
@@ -308,7 +321,7 @@ impl Maker<'_> {
     }
 
     fn unknown_field(&mut self, level: usize) -> (String, String) {
-        let name = self.choose(&["x", "", "Name", "$y", "é", "propertie"], &["\\u0078", "nam\\u0065", "\\"]);
+        let name = self.choose(&["x", "", "Name", "$y", "é", "propertie"], &["\\udc00", "nam\\u0065", "\\"]);
         if self.fault(6) {
             let levels = NESTING - level + self.random.below(2);
             return (name, "[".repeat(levels) + &"]".repeat(levels));

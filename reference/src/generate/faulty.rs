@@ -3,12 +3,14 @@
 
 use super::descriptions::Plan;
 use super::edits::edit;
+use super::escapes::{put_half, respelled, string_with_half};
 use super::payloads::{datatype, format, near_format};
 use super::texts::{broken_utf8, id, near_id};
 use crate::description::{DESCRIPTION_LIMIT, PROPERTY_LIMIT};
 use crate::json::NESTING;
 use crate::payload::{is_format, Datatype};
 use crate::random::Random;
+use crate::text::ID_LIMIT;
 
 /// A JSON value that is still to be written.
 #[derive(Clone)]
@@ -29,6 +31,12 @@ pub fn faulty_description(random: &mut Random, plan: &Plan) -> Vec<u8> {
     }
     let mut text = Vec::new();
     write(random, &tree, &mut text);
+    if random.once_in(3) {
+        text = respelled(random, text);
+    }
+    if random.once_in(10) {
+        put_half(random, &mut text);
+    }
     if random.once_in(5) {
         damage(random, &mut text);
     }
@@ -67,7 +75,7 @@ fn device(random: &mut Random, plan: &Plan) -> Tree {
     }
     some_strings(random, &["name", "type"], &mut members);
     if random.below(8) > 0 {
-        let nodes = (0..random.between(1, 2)).map(|number| (name(["n", "m-"][number]), node(random)));
+        let nodes = (0..random.between(1, 2)).map(|number| (item_id(random, ["n", "m-"][number]), node(random)));
         members.push((name("nodes"), Tree::Object(nodes.collect())));
     }
     in_any_order(random, members)
@@ -77,11 +85,17 @@ fn node(random: &mut Random) -> Tree {
     let count = random.pick(&[0, 1, 1, 2, 3]);
     let mut members = Vec::new();
     if count > 0 || random.once_in(2) {
-        let properties = (0..count).map(|number| (format!("p{number}").into_bytes(), property(random)));
+        let properties = (0..count).map(|number| (item_id(random, &format!("p{number}")), property(random)));
         members.push((name("properties"), Tree::Object(properties.collect())));
     }
     some_strings(random, &["name", "type"], &mut members);
     in_any_order(random, members)
+}
+
+/// An ID, now and then of the greatest length, and now and then past it.
+fn item_id(random: &mut Random, short: &str) -> Vec<u8> {
+    let length = random.mostly(8, &[0], &[ID_LIMIT, ID_LIMIT, ID_LIMIT, ID_LIMIT + 1]);
+    format!("{short:-<length$}").into_bytes()
 }
 
 fn property(random: &mut Random) -> Tree {
@@ -239,11 +253,10 @@ fn leave_out(random: &mut Random, tree: &mut Tree) {
     }
 }
 
-/// The fields with rules beside their kind.
-const RULED: [&str; 7] = ["homie", "version", "root", "parent", "children", "datatype", "format"];
+/// The fields with rules beside their kind; of formats, many are not kept.
+const RULED: [&str; 9] = ["homie", "version", "root", "parent", "children", "datatype", "format", "format", "format"];
 
-/// Another value for such a field, mostly a bad one of the right kind. The
-/// fields come up alike, where they are there.
+/// Another value for such a field, mostly a bad one of the right kind.
 fn change_value(random: &mut Random, plan: &Plan, tree: &mut Tree) {
     let field = random.pick(&RULED);
     let value = new_value(random, plan, field);
@@ -265,11 +278,12 @@ fn member<'a>(tree: &'a mut Tree, field: &str) -> Option<&'a mut Tree> {
 }
 
 fn new_value(random: &mut Random, plan: &Plan, field: &str) -> Tree {
-    const HOMIE: [&str; 7] = ["5", "5.", "5.00", "5.1000", "4.0", "5.\\u0030", ""];
+    const HOMIE: [&str; 7] = ["5", "5.", "5.00", "5.1000", "4.0", "5.\\u0030\\u0030", ""];
     const VERSION: [&str; 7] = ["1.0", "-1e2", "1E5", "9223372036854775808", "-9223372036854775809", "-0", "-0.0"];
     const DATATYPE: [&str; 7] = ["text", "Json", "", "enu\\u006d", "enum", "color", "integer"];
     const FORMAT: [&str; 6] = ["a\\u002cb", "\\n", ",", "", "1:2", "rgb"];
     match field {
+        "homie" | "root" | "parent" | "datatype" | "format" if random.once_in(4) => quoted(&string_with_half(random)),
         "homie" => quoted(random.pick(&HOMIE).as_bytes()),
         "version" => raw(random.pick(&VERSION)),
         "datatype" => quoted(random.pick(&DATATYPE).as_bytes()),
@@ -286,30 +300,43 @@ fn new_value(random: &mut Random, plan: &Plan, field: &str) -> Tree {
     }
 }
 
+/// Of the greatest length, or one byte past it.
+fn long_id(random: &mut Random) -> Vec<u8> {
+    (0..ID_LIMIT + random.below(2)).map(|_| random.pick(b"az09-")).collect()
+}
+
 fn child(random: &mut Random, plan: &Plan) -> Tree {
-    match random.below(5) {
+    match random.below(6) {
         0 => quoted(plan.own),
-        1 => raw(random.pick(&["\"\"", "\"A\"", "\"\\u0061\""])),
+        1 => raw(random.pick(&["\"\"", "\"A\"", "\"\\u0041\"", "\"\\u0061\""])),
+        2 => quoted(&string_with_half(random)),
+        3 => quoted(&long_id(random)),
         _ => quoted(&near_id(random)),
     }
 }
 
 fn relation(random: &mut Random, plan: &Plan) -> Tree {
-    match random.below(5) {
+    match random.below(6) {
         0 | 1 => quoted(plan.own),
         2 => quoted(&near_id(random)),
+        4 => quoted(&long_id(random)),
         3 => raw("\"\\u0061\""),
         _ => quoted(b"elsewhere"),
     }
 }
 
 const NAMES: [&str; 12] =
-    ["", "A", "p0", "n", "a_b", "\\u0061", "\\\\", "nam\\u0065", "ro\\u006ft", "name", "datatype", "properties"];
+    ["", "A", "p0", "n", "a_b", "\\u0061", "\\\\", "nam\\u0065", "ro\\u006Ft", "name", "datatype", "properties"];
 
 fn change_name(random: &mut Random, tree: &mut Tree) {
     if let Some(members) = some_members(random, tree) {
         let chosen = random.below(members.len());
-        members[chosen].0 = if random.once_in(4) { near_id(random) } else { name(random.pick(&NAMES)) };
+        members[chosen].0 = match random.below(8) {
+            0 | 1 => near_id(random),
+            2 => long_id(random),
+            3 => string_with_half(random),
+            _ => name(random.pick(&NAMES)),
+        };
     }
 }
 
@@ -484,7 +511,7 @@ mod tests {
                 *told.entry(rule.name).or_default() += usize::from(fault.is_some_and(tells));
             }
         }
-        assert_eq!(told.len(), 24);
+        assert_eq!(told.len(), 31);
         assert!(told.values().all(|&times| times >= 20), "{told:?}");
     }
 

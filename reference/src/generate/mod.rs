@@ -7,6 +7,7 @@
 mod calls;
 pub mod descriptions;
 pub mod edits;
+pub mod escapes;
 pub mod faulty;
 mod floats;
 mod judge;

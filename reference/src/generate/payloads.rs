@@ -90,7 +90,7 @@ fn range(random: &mut Random, low: String, high: String, step: String) -> String
     }
 }
 
-const ENTRIES: [&str; 10] = ["a", "b", "on", "off", "A", " a", "a ", "é", "low", "lower"];
+const ENTRIES: [&str; 12] = ["a", "b", "on", "off", "A", " a", "a ", "é", "low", "lower", "😀", "a/b"];
 
 fn enum_format(random: &mut Random) -> String {
     let mut entries = ENTRIES.to_vec();

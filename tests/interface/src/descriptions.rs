@@ -10,7 +10,7 @@ use reference::description::{self, Description, Property};
 use reference::generate::descriptions::{description, full_description, Plan};
 use reference::generate::faulty::faulty_description;
 use reference::generate::texts::{id, near_id};
-use reference::json::{self, Value};
+use reference::json::{self, string_at};
 use reference::lines::hex;
 use reference::random::Random;
 use reference::refusal::NUMBER;
@@ -92,24 +92,23 @@ fn require(holds: bool, what: &str) -> Outcome {
 }
 
 fn is_head(text: &[u8], values: &[u64], expected: &Description) -> Outcome {
-    let relative =
-        |shown: &[u64], name: &str, id: Option<&[u8]>| is_optional(text, shown, id) && is_field(text, shown, name);
     require(values[0] == expected.version as u64, "the version")?;
-    require(relative(&values[1..3], "root", expected.root.as_deref()), "the root")?;
-    require(relative(&values[3..5], "parent", expected.parent.as_deref()), "the parent")?;
+    require(is_field(text, &values[1..3], &[b"root"], expected.root.as_deref()), "the root")?;
+    require(is_field(text, &values[3..5], &[b"parent"], expected.parent.as_deref()), "the parent")?;
     require(values[5] == expected.properties.len() as u64, "the number of properties")
 }
 
 fn is_property(text: &[u8], values: &[u64], expected: &Property) -> Outcome {
-    let kept = kept(expected, has_format(text, expected));
+    let (node, id): (&[u8], &[u8]) = (&expected.node, &expected.id);
+    let path = [b"nodes", node, b"properties", id, b"format"];
+    let kept = kept(expected, member(text, &path).is_some());
     let as_given = kept == 0;
     let (shown, format) = ([u64::from(as_given), values[4]], as_given.then_some(&expected.format[..]));
-    require(string_at(text, values[0]) == Some(&expected.node), "the node's ID")?;
-    require(string_at(text, values[1]) == Some(&expected.id) && values[1] > values[0], "the property's ID")?;
-    require(is_member(text, values[0]) && is_member(text, values[1]), "where the IDs stand")?;
+    require(is_name(text, values[0], &path[..2]), "the node's ID")?;
+    require(is_name(text, values[1], &path[..4]), "the property's ID")?;
     require(values[2] == datatype_number(expected.datatype), "the datatype")?;
     require(values[3] == kept, "what is kept of the format")?;
-    require(is_optional(text, &shown, format) && is_field(text, &shown, "format"), "the format")?;
+    require(is_field(text, &shown, &path, format), "the format")?;
     require(values[5..7] == [expected.settable, expected.retained].map(u64::from), "a flag")
 }
 
@@ -122,49 +121,28 @@ fn kept(property: &Property, given: bool) -> u64 {
     }
 }
 
-/// Whether the text gives the format of a property, kept or not.
-fn has_format(text: &[u8], property: &Property) -> bool {
-    let names: [&[u8]; 5] = [b"nodes", &property.node, b"properties", &property.id, b"format"];
-    let format =
-        |document: Value| names.iter().try_fold(&document, |value, name| value.object()?.value(name)).is_some();
-    json::read(text).is_some_and(format)
-}
-
 // Places in the text
 
-/// The string whose opening quote stands at a place: its bytes up to the next quote.
-fn string_at(text: &[u8], at: u64) -> Option<&[u8]> {
-    let rest = text.get(usize::try_from(at).ok()?..)?.strip_prefix(b"\"")?;
-    rest.get(..rest.iter().position(|&byte| byte == b'"')?)
+/// The member that these names lead to, each by what it says, and the place of its value.
+fn member(text: &[u8], names: &[&[u8]]) -> Option<(usize, usize)> {
+    let document = json::read(text)?;
+    let (last, before) = names.split_last()?;
+    let object = before.iter().try_fold(&document, |value, name| value.object()?.value(name))?;
+    object.object()?.member(last).map(|member| (member.place, member.value.place))
 }
 
-/// 1 and where the string stands, or 0 and 0.
-fn is_optional(text: &[u8], shown: &[u64], string: Option<&[u8]>) -> bool {
-    match string {
-        None => shown == [0, 0],
-        Some(_) => shown[0] == 1 && string_at(text, shown[1]) == string,
-    }
+/// The last of these names stands at the place shown, and says what it should.
+fn is_name(text: &[u8], shown: u64, names: &[&[u8]]) -> bool {
+    let place = member(text, names).map(|(name, _)| name);
+    place.map(|place| place as u64) == Some(shown)
+        && place.and_then(|place| string_at(text, place).ok()).as_deref() == names.last().copied()
 }
 
-fn is_space(byte: &u8) -> bool {
-    matches!(byte, b' ' | b'\t' | b'\n' | b'\r')
-}
-
-/// A string that is shown stands as the value of a field of that name.
-fn is_field(text: &[u8], shown: &[u64], name: &str) -> bool {
-    if shown[0] == 0 {
-        return true;
-    }
-    let before = text.get(..shown[1] as usize).unwrap_or(b"").trim_ascii_end();
-    let field = before.strip_suffix(b":").unwrap_or(b"").trim_ascii_end();
-    field.ends_with(format!("\"{name}\"").as_bytes())
-}
-
-/// A string that names a member: a colon and an object follow it.
-fn is_member(text: &[u8], at: u64) -> bool {
-    let Some(string) = string_at(text, at) else {
-        return false;
+/// 1 and where the field's string stands, which says what it should, or 0 and 0.
+fn is_field(text: &[u8], shown: &[u64], names: &[&[u8]], string: Option<&[u8]>) -> bool {
+    let Some(string) = string else {
+        return shown == [0, 0];
     };
-    let mut rest = text[at as usize + string.len() + 2..].iter().filter(|byte| !is_space(byte));
-    [rest.next(), rest.next()] == [Some(&b':'), Some(&b'{')]
+    let place = member(text, names).map_or(usize::MAX, |(_, value)| value);
+    shown == [1, place as u64] && string_at(text, place).as_deref() == Ok(string)
 }

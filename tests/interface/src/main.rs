@@ -23,6 +23,7 @@ mod planted;
 mod questions;
 mod raw;
 mod sound;
+mod strings;
 mod table;
 mod tally;
 mod watch;

@@ -125,6 +125,20 @@ pub fn description_property(own: &[u8], text: &[u8], i: usize, out: &mut [u64]) 
     })
 }
 
+pub fn description_string(text: &[u8], place: usize, buffer: &mut [u8], out: &mut [u64]) -> u32 {
+    fenced([text], |[text]| unsafe {
+        sys::homie5_description_string(
+            text.as_ptr(),
+            text.len(),
+            place,
+            buffer.as_mut_ptr(),
+            buffer.len(),
+            out.as_mut_ptr(),
+            out.len(),
+        )
+    })
+}
+
 pub fn open(mem: &mut [u8], domain: &[u8], devices: usize, depth: usize) -> u32 {
     fenced([domain], |[domain]| unsafe {
         sys::homie5_open(mem.as_mut_ptr(), mem.len(), domain.as_ptr(), domain.len(), devices, depth)

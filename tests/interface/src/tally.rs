@@ -16,7 +16,7 @@ pub struct Tally {
 }
 
 /// The numbers that each call can answer. Each must occur in a whole run.
-pub const LEGAL: [(&str, &[u8]); 27] = [
+pub const LEGAL: [(&str, &[u8]); 28] = [
     ("trace_check", &[0, 1, 2]),
     ("trace_read", &[0, 1, 2, 3]),
     ("trace_next", &[0, 1, 2, 3]),
@@ -30,6 +30,7 @@ pub const LEGAL: [(&str, &[u8]); 27] = [
     ("description_judge", &[0, 21, 22, 23, 24, 25]),
     ("description_read", &[0, 21, 22, 23, 24, 25]),
     ("description_property", &[0, 3, 21, 22, 23, 24, 25]),
+    ("description_string", &[0, 21, 22, 25]),
     ("open", &[0, 5]),
     ("message", &[0, 6, 7, 8, 9, 10, 11, 12, 13, 14, 16, 17, 21, 22, 23, 24, 25]),
     ("step_back", &[0, 6, 18]),

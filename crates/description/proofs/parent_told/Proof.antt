@@ -6,6 +6,7 @@ use Rattle.description.proofs.parent_told.Tie as tie
 use Rattle.description.proofs.parent_told.Reads as reads
 use Rattle.description.proofs.parent_told.Lts as lts
 use Rattle.description.proofs.relative_told.Reads as relative-told-reads
+use Rattle.description.proofs.rootless_told.Reads as rootless-told-reads
 use Rattle.fields.proofs.is_present.Reads as is-present-reads
 use Rattle.fields.proofs.is_string.Reads as is-string-reads
 
@@ -27,8 +28,11 @@ returns-2 c = λ h. parent-kind _ _ _ (c .before .before .before .f .given .1) (
 is-present-requires : tie.Need-is-present-requires
 is-present-requires c κs = search needs
 
+rootless-told-requires : tie.Need-rootless-told-requires
+rootless-told-requires c κs = search needs
+
 returns-3 : tie.Need-returns-3
-returns-3 c = λ h. parent-alone _ _ _ (c .before .before .before .before .before .f .given .1) (c .before .before .before .is-string .ensures) (not-false _ (c .before .before .if1 .left)) (c .before .is-present .ensures) (not-true _ (c .if2 .taken))
+returns-3 c = λ h. parent-alone _ _ _ (c .before .before .before .before .before .before .f .given .1) (c .before .before .before .before .is-string .ensures) (not-false _ (c .before .before .before .if1 .left)) (c .before .before .is-present .ensures) (not-true _ (c .before .if2 .taken)) (c .rootless-told .ensures h _)
 
 relative-told-requires : tie.Need-relative-told-requires
 relative-told-requires c κs = search needs
@@ -46,6 +50,7 @@ parent-told-spec =
     is-string-requires
     returns-2
     is-present-requires
+    rootless-told-requires
     returns-3
     relative-told-requires
     returns-4)

@@ -1,33 +1,26 @@
-use Rattle.fields.specs.Known.{IsMember}
-use Rattle.fields.proofs.Fields.{own-found}
-use mathlib.Core.Path.{_≡_, refl}
-use Rattle.fields.specs.Values.{stringBytes}
 use Prim.Native.Nat.{_-_}
 use lib.ListN.{length}
-use mathlib.Core.Path.{sym, _∙_}
+use mathlib.Core.Path.{_≡_, sym, ap, _∙_}
 use native.Mathlib.Omega.{arith}
 use Rattle.json.specs.Ends.{Ends}
+use Rattle.json.specs.Strings.{isPlain}
 use Rattle.json.proofs.Bytes.{inside=}
+use Rattle.escapes.specs.Decode.{whole}
 use Rattle.fields.specs.declared.Field.the-variants.{Absent}
+use Rattle.fields.specs.Values.{decodedAt, stringBytes}
 use Rattle.fields.specs.Fields.{field}
+use Rattle.fields.specs.Known.{IsMember}
 use Rattle.fields.proofs.Walk.{item-is, falls}
-use Rattle.fields.proofs.Fields.{Looking, look-none, look-first, look-done, look-found, look-miss}
+use Rattle.fields.proofs.Fields.{Looking, look-none, look-first, look-done, look-found, look-miss, alike-this, own-found}
 use borrow.Author.Needs.{needs}
 use Rattle.fields.proofs.first_named.Statement.{statement}
 use Rattle.fields.proofs.first_named.Tie as tie
-use Rattle.fields.proofs.first_named.Reads as reads
-use Rattle.fields.proofs.first_named.Lts as lts
-use Rattle.fields.proofs.string_bytes_by.Reads as string-bytes-by-reads
-use Rattle.json.proofs.member_by.Reads as member-by-reads
-use Rattle.json.proofs.peek.Reads as peek-reads
-use Rattle.json.proofs.skip.Reads as skip-reads
-use Rattle.text.proofs.same.Reads as same-reads
 
 abbrev Inv-loop : tie.InvT-loop
-Inv-loop s at own value name ends i₀ i = Ends s ends → name ≡ stringBytes s own → IsMember s own value → Looking s name Absent i (field s at name)
+Inv-loop s at own value ends raw plain i₀ i = Ends s ends → decodedAt s own ≡ whole (stringBytes s own) → IsMember s own value → Looking s (stringBytes s own) Absent i (field s at (stringBytes s own))
 
 abbrev μ-loop : tie.MeasureT-loop
-μ-loop s at own value name ends i₀ i = length s - i
+μ-loop s at own value ends raw plain i₀ i = length s - i
 
 peek-requires : tie.Need-peek-requires Inv-loop μ-loop
 peek-requires c κs = search needs
@@ -35,17 +28,23 @@ peek-requires c κs = search needs
 returns : tie.Need-returns Inv-loop μ-loop
 returns c = λ h q w. look-none _ _ _ (c .before .peek .ensures) (c .if1 .taken)
 
+raw-bytes-by-requires : tie.Need-raw-bytes-by-requires Inv-loop μ-loop
+raw-bytes-by-requires c κs = search needs
+
+is-plain-by-requires : tie.Need-is-plain-by-requires Inv-loop μ-loop
+is-plain-by-requires c κs = search needs
+
 add-skip : tie.Need-add-skip Inv-loop μ-loop
-add-skip c = let h = inside= (c .before .before .before .before .before .args .s .now) _ 123 (sym (c .before .peek .ensures) ∙ c .if1 .left) (omega arith) in omega arith
+add-skip c = let h = inside= (c .before .before .before .before .before .before .args .s .now) _ 123 (sym (c .before .before .before .peek .ensures) ∙ c .before .before .if1 .left) (omega arith) in omega arith
 
 skip-requires : tie.Need-skip-requires Inv-loop μ-loop
 skip-requires c κs = search needs
 
 loop-holds : tie.Need-loop-holds Inv-loop μ-loop
-loop-holds c = let h = inside= (c .before .before .before .before .before .before .args .s .now) _ 123 (sym (c .before .before .peek .ensures) ∙ c .before .if1 .left) (omega arith) in λ e q w. look-first _ _ _ (c .before .before .peek .ensures) (c .before .if1 .left) (c .skip .ensures .is) (omega (arith, c .skip .ensures .to))
+loop-holds c = let h = inside= (c .before .before .before .before .before .before .before .args .s .now) _ 123 (sym (c .before .before .before .before .peek .ensures) ∙ c .before .before .before .if1 .left) (omega arith) in λ e q w. look-first _ _ _ (c .before .before .before .before .peek .ensures) (c .before .before .before .if1 .left) (c .skip .ensures .is) (omega (arith, c .skip .ensures .to))
 
 returns-2 : tie.Need-returns-2 Inv-loop μ-loop
-returns-2 c = λ h q w. own-found _ _ (c .before .loop .inv h q w) (c .if2 .taken) w q
+returns-2 c = λ h q w. own-found _ _ q (c .before .loop .inv h q w) (c .if2 .taken) w
 
 member-by-requires : tie.Need-member-by-requires Inv-loop μ-loop
 member-by-requires c κs = search needs
@@ -59,20 +58,17 @@ returns-3 c = λ h q w. look-done _ _ _ _ (c .before .before .before .before .lo
 enum-known-k : tie.Need-enum-known-k Inv-loop μ-loop
 enum-known-k c = search needs
 
-string-bytes-by-requires : tie.Need-string-bytes-by-requires Inv-loop μ-loop
-string-bytes-by-requires c κs = search needs
-
-same-requires : tie.Need-same-requires Inv-loop μ-loop
-same-requires c κs = search needs
+is-alike-requires : tie.Need-is-alike-requires Inv-loop μ-loop
+is-alike-requires c κs = search needs
 
 returns-4 : tie.Need-returns-4 Inv-loop μ-loop
-returns-4 c = λ h q w. look-found _ _ _ (c .before .before .before .before .before .before .before .before .loop .inv h q w) (item-is _ (c .before .before .before .before .before .before .member-by .ensures) (c .before .before .before .before .k .given .1) h) (c .before .before .string-bytes-by .ensures h) (c .before .same .ensures) (c .if3 .taken)
+returns-4 c = λ h q w. look-found _ _ _ (c .before .before .before .before .before .before .before .loop .inv h q w) (item-is _ (c .before .before .before .before .before .member-by .ensures) (c .before .before .before .k .given .1) h) (alike-this _ _ q _ (c .before .before .before .before .before .before .before .before .before .before .raw-bytes-by .ensures h) (c .before .is-alike .ensures h (c .before .before .before .before .before .before .before .before .before .is-plain-by .ensures h ∙ ap isPlain (sym (c .before .before .before .before .before .before .before .before .before .before .raw-bytes-by .ensures h))))) (c .if3 .taken)
 
 loop-less : tie.Need-loop-less Inv-loop μ-loop
-loop-less c = falls (c .before .before .before .before .before .before .member-by .ensures) (c .before .before .before .before .k .given .1)
+loop-less c = falls (c .before .before .before .before .before .member-by .ensures) (c .before .before .before .k .given .1)
 
 loop-again : tie.Need-loop-again Inv-loop μ-loop
-loop-again c = λ h q w. look-miss _ _ _ _ (c .before .before .before .before .before .before .before .before .loop .inv h q w) (item-is _ (c .before .before .before .before .before .before .member-by .ensures) (c .before .before .before .before .k .given .1) h) (c .before .before .string-bytes-by .ensures h) (c .before .same .ensures) (c .if3 .left)
+loop-again c = λ h q w. look-miss _ _ _ _ (c .before .before .before .before .before .before .before .loop .inv h q w) (item-is _ (c .before .before .before .before .before .member-by .ensures) (c .before .before .before .k .given .1) h) (alike-this _ _ q _ (c .before .before .before .before .before .before .before .before .before .before .raw-bytes-by .ensures h) (c .before .is-alike .ensures h (c .before .before .before .before .before .before .before .before .before .is-plain-by .ensures h ∙ ap isPlain (sym (c .before .before .before .before .before .before .before .before .before .before .raw-bytes-by .ensures h))))) (c .if3 .left)
 
 pub first-named-spec : {M : Type 1} → statement M
 first-named-spec =
@@ -82,6 +78,8 @@ first-named-spec =
     μ-loop
     peek-requires
     returns
+    raw-bytes-by-requires
+    is-plain-by-requires
     add-skip
     skip-requires
     loop-holds
@@ -90,8 +88,7 @@ first-named-spec =
     enum-told
     returns-3
     enum-known-k
-    string-bytes-by-requires
-    same-requires
+    is-alike-requires
     returns-4
     loop-less
     loop-again)

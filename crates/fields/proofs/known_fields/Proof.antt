@@ -10,15 +10,6 @@ use Rattle.fields.proofs.Fields.{Turn, Noting, note-none, note-first, n
 use borrow.Author.Needs.{needs}
 use Rattle.fields.proofs.known_fields.Statement.{statement}
 use Rattle.fields.proofs.known_fields.Tie as tie
-use Rattle.fields.proofs.known_fields.Reads as reads
-use Rattle.fields.proofs.known_fields.Lts as lts
-use Rattle.fields.proofs.classify.Reads as classify-reads
-use Rattle.fields.proofs.more_told.Reads as more-told-reads
-use Rattle.fields.proofs.see.Reads as see-reads
-use Rattle.fields.proofs.string_bytes_by.Reads as string-bytes-by-reads
-use Rattle.json.proofs.member_by.Reads as member-by-reads
-use Rattle.json.proofs.peek.Reads as peek-reads
-use Rattle.json.proofs.skip.Reads as skip-reads
 
 abbrev Inv-loop : tie.InvT-loop
 Inv-loop owner s at ends seen₀ told₀ i₀ seen told i = Turn (Ends s ends) seen i (Noting owner s at told seen i)
@@ -53,11 +44,8 @@ returns-2 c = λ h. note-done _ _ _ _ _ _ (c .before .before .before .loop .inv 
 enum-known-k : tie.Need-enum-known-k Inv-loop μ-loop
 enum-known-k c = search needs
 
-string-bytes-by-requires : tie.Need-string-bytes-by-requires Inv-loop μ-loop
-string-bytes-by-requires c κs = search needs
-
-classify-requires : tie.Need-classify-requires Inv-loop μ-loop
-classify-requires c κs = search needs
+name-number-requires : tie.Need-name-number-requires Inv-loop μ-loop
+name-number-requires c κs = search needs
 
 mul-more-told : tie.Need-mul-more-told Inv-loop μ-loop
 mul-more-told c = search needs
@@ -69,13 +57,13 @@ more-told-requires : tie.Need-more-told-requires Inv-loop μ-loop
 more-told-requires c κs = search needs
 
 see-requires : tie.Need-see-requires Inv-loop μ-loop
-see-requires c κs = (c .before .before .classify .ensures .low, c .before .before .before .before .before .before .before .before .loop .inv .long)
+see-requires c κs = (c .before .before .name-number .ensures .0, c .before .before .before .before .before .before .before .loop .inv .long)
 
 loop-less : tie.Need-loop-less Inv-loop μ-loop
-loop-less c = falls (c .before .before .before .before .before .before .before .before .member-by .ensures) (c .before .before .before .before .before .before .k .given .1)
+loop-less c = falls (c .before .before .before .before .before .before .before .member-by .ensures) (c .before .before .before .before .before .k .given .1)
 
 loop-again : tie.Need-loop-again Inv-loop μ-loop
-loop-again c = let l = item-lies _ (c .before .before .before .before .before .before .before .before .member-by .ensures) (c .before .before .before .before .before .before .k .given .1) in record { long = c .see .ensures .long ∙ c .before .before .before .before .before .before .before .before .before .loop .inv .long; from = omega arith; below = c .see .ensures .below _ (omega arith) (λ j. let b = c .before .before .before .before .before .before .before .before .before .loop .inv .below j in omega arith); going = λ h. note-more _ _ _ _ _ _ (c .before .before .before .before .before .before .before .before .before .loop .inv .going h) (item-is _ (c .before .before .before .before .before .before .before .before .member-by .ensures) (c .before .before .before .before .before .before .k .given .1) h) (c .before .before .before .before .string-bytes-by .ensures h) (c .before .before .before .classify .ensures) (c .before .before .before .before .before .before .before .before .before .loop .inv .below _) (c .before .before .before .before .before .before .before .before .before .loop .inv .from) refl (c .before .before .more-told .ensures (c .before .before .before .classify .ensures)) (c .see .ensures) }
+loop-again c = let l = item-lies _ (c .before .before .before .before .before .before .before .member-by .ensures) (c .before .before .before .before .before .k .given .1) in record { long = c .see .ensures .long ∙ c .before .before .before .before .before .before .before .before .loop .inv .long; from = omega arith; below = c .see .ensures .below _ (omega arith) (λ j. let b = c .before .before .before .before .before .before .before .before .loop .inv .below j in omega arith); going = λ h. note-more _ _ _ _ _ _ (c .before .before .before .before .before .before .before .before .loop .inv .going h) (item-is _ (c .before .before .before .before .before .before .before .member-by .ensures) (c .before .before .before .before .before .k .given .1) h) (c .before .before .before .name-number .ensures .1 h) (c .before .before .before .before .before .before .before .before .loop .inv .below _) (c .before .before .more-told .ensures h (c .before .before .before .name-number .ensures .1 h)) (c .see .ensures) (c .before .before .before .before .before .before .before .before .loop .inv .from) }
 
 pub known-fields-spec : {M : Type 1} → statement M
 known-fields-spec =
@@ -92,8 +80,7 @@ known-fields-spec =
     enum-told
     returns-2
     enum-known-k
-    string-bytes-by-requires
-    classify-requires
+    name-number-requires
     mul-more-told
     array-read-more-told
     more-told-requires

@@ -15,8 +15,8 @@ put-text-requires c κs = search needs
 enum-told-2 : tie.Need-enum-told-2
 enum-told-2 c = search needs
 
-put-text-requires-2 : tie.Need-put-text-requires-2
-put-text-requires-2 c κs = search needs
+put-field-requires : tie.Need-put-field-requires
+put-field-requires c κs = search needs
 
 enum-told-3 : tie.Need-enum-told-3
 enum-told-3 c = search needs
@@ -24,8 +24,8 @@ enum-told-3 c = search needs
 slice-aggregate-put-text-2 : tie.Need-slice-aggregate-put-text-2
 slice-aggregate-put-text-2 c = search needs
 
-put-text-requires-3 : tie.Need-put-text-requires-3
-put-text-requires-3 c κs = search needs
+put-text-requires-2 : tie.Need-put-text-requires-2
+put-text-requires-2 c κs = search needs
 
 enum-told-4 : tie.Need-enum-told-4
 enum-told-4 c = search needs
@@ -33,8 +33,8 @@ enum-told-4 c = search needs
 slice-aggregate-put-text-3 : tie.Need-slice-aggregate-put-text-3
 slice-aggregate-put-text-3 c = search needs
 
-put-text-requires-4 : tie.Need-put-text-requires-4
-put-text-requires-4 c κs = search needs
+put-text-requires-3 : tie.Need-put-text-requires-3
+put-text-requires-3 c κs = search needs
 
 enum-told-5 : tie.Need-enum-told-5
 enum-told-5 c = search needs
@@ -42,8 +42,8 @@ enum-told-5 c = search needs
 slice-aggregate-put-text-4 : tie.Need-slice-aggregate-put-text-4
 slice-aggregate-put-text-4 c = search needs
 
-put-text-requires-5 : tie.Need-put-text-requires-5
-put-text-requires-5 c κs = search needs
+put-text-requires-4 : tie.Need-put-text-requires-4
+put-text-requires-4 c κs = search needs
 
 same-length : tie.Need-same-length
 same-length c = search needs
@@ -55,25 +55,25 @@ same-length-2 : tie.Need-same-length-2
 same-length-2 c = search needs
 
 returns-2 : tie.Need-returns-2
-returns-2 c = texted-as (kept-given _ (c .before .before .before .before .enum-told2 .given .1)) (c .before .before .put-text2 .ensures)
+returns-2 c = texted-as (kept-given _ (c .before .before .before .before .enum-told2 .given .1)) (c .before .before .put-field .ensures)
 
 same-length-3 : tie.Need-same-length-3
 same-length-3 c = search needs
 
 returns-3 : tie.Need-returns-3
-returns-3 c = texted-as (kept-colon _ (c .before .before .before .before .before .enum-told3 .given .1)) (c .before .before .put-text3 .ensures)
+returns-3 c = texted-as (kept-colon _ (c .before .before .before .before .before .enum-told3 .given .1)) (c .before .before .put-text2 .ensures)
 
 same-length-4 : tie.Need-same-length-4
 same-length-4 c = search needs
 
 returns-4 : tie.Need-returns-4
-returns-4 c = texted-as (kept-words _ (c .before .before .before .before .before .enum-told4 .given .1)) (c .before .before .put-text4 .ensures)
+returns-4 c = texted-as (kept-words _ (c .before .before .before .before .before .enum-told4 .given .1)) (c .before .before .put-text3 .ensures)
 
 same-length-5 : tie.Need-same-length-5
 same-length-5 c = search needs
 
 returns-5 : tie.Need-returns-5
-returns-5 c = texted-as (kept-none _ (c .before .before .before .before .before .enum-told5 .given .1)) (c .before .before .put-text5 .ensures)
+returns-5 c = texted-as (kept-none _ (c .before .before .before .before .before .enum-told5 .given .1)) (c .before .before .put-text4 .ensures)
 
 pub put-format-spec : {M : Type 1} → statement M
 put-format-spec =
@@ -83,16 +83,16 @@ put-format-spec =
     slice-aggregate-put-text
     put-text-requires
     enum-told-2
-    put-text-requires-2
+    put-field-requires
     enum-told-3
     slice-aggregate-put-text-2
-    put-text-requires-3
+    put-text-requires-2
     enum-told-4
     slice-aggregate-put-text-3
-    put-text-requires-4
+    put-text-requires-3
     enum-told-5
     slice-aggregate-put-text-4
-    put-text-requires-5
+    put-text-requires-4
     same-length
     returns
     same-length-2

@@ -32,7 +32,7 @@ use Rattle.json.proofs.leaf.Reads as leaf-reads
 use Rattle.json.proofs.note.Reads as note-reads
 use Rattle.json.proofs.peek.Reads as peek-reads
 use Rattle.json.proofs.skip.Reads as skip-reads
-use Rattle.json.proofs.mark_string.Reads as mark-string-reads
+use Rattle.json.proofs.string.mark_string.Reads as mark-string-reads
 use Rattle.json.proofs.+array+inner_value+mark_value+member+object.{statement}
 use Rattle.json.proofs.+array+inner_value+mark_value+member+object.Tie.{close}
 
@@ -167,9 +167,9 @@ pub +array+inner-value+mark-value+member+object-spec : {M : Type 1} → statemen
     (λ c κs. search needs)
     (λ c κs. bare (c .before .peek .ensures) (c .match .rest .0 .0 .1) (c .match .rest .0 .1) (c .match .rest .1))
     (λ c. search needs)
-    (λ c. let w = same-as (value-array _ _ _ (sym (c .before .before .before .before .before .before .before .before .before .before .peek .ensures) ∙ c .before .before .before .before .before .before .before .before .before .match .keys1) (c .before .before .before .before .before .before .before .before .if1 .left)) (c .before .before .before .before .before .before .array .ensures .0) in (w, kept-then (kept-less (omega arith) (c .before .before .before .before .before .before .array .ensures .1)) (noted-kept w (c .before .before .note .ensures))))
+    (λ c. let w = same-as (value-array _ _ _ (sym (c .before .before .before .before .before .before .before .before .before .before .peek .ensures) ∙ c .before .before .before .before .before .before .before .before .before .match .keys1) (c .before .before .before .before .before .before .before .before .if1 .left)) (c .before .before .before .before .before .before .array .ensures .0) in (w, kept-then (kept-less (omega arith) (c .before .before .before .before .before .before .array .ensures .1)) (noted-kept (sym (c .before .before .before .before .before .before .before .before .before .before .peek .ensures) ∙ c .before .before .before .before .before .before .before .before .before .match .keys1) (omega arith) w (c .before .before .note .ensures))))
     (λ c. search needs)
-    (λ c. let w = same-as (value-object _ _ _ (sym (c .before .before .before .before .before .before .before .before .before .before .peek .ensures) ∙ c .before .before .before .before .before .before .before .before .before .match .keys2) (c .before .before .before .before .before .before .before .before .if2 .left)) (c .before .before .before .before .before .before .object .ensures .0) in (w, kept-then (kept-less (omega arith) (c .before .before .before .before .before .before .object .ensures .1)) (noted-kept w (c .before .before .note2 .ensures))))
+    (λ c. let w = same-as (value-object _ _ _ (sym (c .before .before .before .before .before .before .before .before .before .before .peek .ensures) ∙ c .before .before .before .before .before .before .before .before .before .match .keys2) (c .before .before .before .before .before .before .before .before .if2 .left)) (c .before .before .before .before .before .before .object .ensures .0) in (w, kept-then (kept-less (omega arith) (c .before .before .before .before .before .before .object .ensures .1)) (noted-kept (sym (c .before .before .before .before .before .before .before .before .before .before .peek .ensures) ∙ c .before .before .before .before .before .before .before .before .before .match .keys2) (omega arith) w (c .before .before .note2 .ensures))))
     (λ c. search needs)
     (λ c. (same-as (value-quote _ _ _ (sym (c .before .before .before .before .before .peek .ensures) ∙ c .before .before .before .before .match .keys3)) (c .before .before .mark-string .ensures .0), kept-less (omega arith) (c .before .before .mark-string .ensures .1)))
     (λ c. (c .leaf .ensures .at-depth _, kept)))

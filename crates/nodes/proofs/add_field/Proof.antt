@@ -3,9 +3,6 @@ use Rattle.nodes.proofs.Nodes.{ofProperties, field-none, field-some}
 use borrow.Author.Needs.{needs}
 use Rattle.nodes.proofs.add_field.Statement.{statement}
 use Rattle.nodes.proofs.add_field.Tie as tie
-use Rattle.nodes.proofs.add_field.Reads as reads
-use Rattle.nodes.proofs.add_field.Lts as lts
-use Rattle.nodes.proofs.add_properties.Reads as add-properties-reads
 
 enum-told : tie.Need-enum-told
 enum-told c = search needs

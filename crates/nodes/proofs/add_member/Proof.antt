@@ -2,12 +2,6 @@ use Rattle.nodes.proofs.Nodes.{member-first, member-again}
 use borrow.Author.Needs.{needs}
 use Rattle.nodes.proofs.add_member.Statement.{statement}
 use Rattle.nodes.proofs.add_member.Tie as tie
-use Rattle.nodes.proofs.add_member.Reads as reads
-use Rattle.nodes.proofs.add_member.Lts as lts
-use Rattle.faults.proofs.earlier.Reads as earlier-reads
-use Rattle.fields.proofs.comes_first.Reads as comes-first-reads
-use Rattle.fields.proofs.id_name_told.Reads as id-name-told-reads
-use Rattle.nodes.proofs.add_node.Reads as add-node-reads
 
 id-name-told-requires : tie.Need-id-name-told-requires
 id-name-told-requires c κs = search needs

@@ -5,14 +5,6 @@ use Rattle.nodes.proofs.Nodes.{node-kind, node-fields}
 use borrow.Author.Needs.{needs}
 use Rattle.nodes.proofs.add_node.Statement.{statement}
 use Rattle.nodes.proofs.add_node.Tie as tie
-use Rattle.nodes.proofs.add_node.Reads as reads
-use Rattle.nodes.proofs.add_node.Lts as lts
-use Rattle.faults.proofs.earlier.Reads as earlier-reads
-use Rattle.fields.proofs.field_at.Reads as field-at-reads
-use Rattle.fields.proofs.is_object.Reads as is-object-reads
-use Rattle.fields.proofs.known_fields.Reads as known-fields-reads
-use Rattle.nodes.proofs.add_field.Reads as add-field-reads
-use Rattle.nodes.proofs.fields_told.Reads as fields-told-reads
 
 is-object-requires : tie.Need-is-object-requires
 is-object-requires c κs = search needs

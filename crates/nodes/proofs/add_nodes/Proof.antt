@@ -1,9 +1,8 @@
-use Prim.Native.Nat.{_-_, _≤_}
+use Prim.Native.Nat.{_-_}
 use lib.ListN.{length}
-use mathlib.Core.Path.{refl, sym, _∙_}
+use mathlib.Core.Path.{sym, _∙_}
 use native.Mathlib.Omega.{arith}
 use Rattle.json.proofs.Bytes.{inside=}
-use Rattle.json.specs.Ends.{Ends}
 use Rattle.fields.specs.Values.{members}
 use Rattle.fields.proofs.Walk.{item-lies, item-is, falls, no-members, first-member}
 use Rattle.nodes.proofs.Adding.{Turn, Looping, turn-none, turn-first, turn-done, turn-next}
@@ -11,12 +10,6 @@ use Rattle.nodes.proofs.Nodes.{ofNodes, one-node}
 use borrow.Author.Needs.{needs}
 use Rattle.nodes.proofs.add_nodes.Statement.{statement}
 use Rattle.nodes.proofs.add_nodes.Tie as tie
-use Rattle.nodes.proofs.add_nodes.Reads as reads
-use Rattle.nodes.proofs.add_nodes.Lts as lts
-use Rattle.json.proofs.member_by.Reads as member-by-reads
-use Rattle.json.proofs.peek.Reads as peek-reads
-use Rattle.json.proofs.skip.Reads as skip-reads
-use Rattle.nodes.proofs.add_member.Reads as add-member-reads
 
 abbrev Inv-loop : tie.InvT-loop
 Inv-loop s nodes ends l₀ i₀ l i = Looping s ends i (Turn (ofNodes s nodes) s i (members s nodes) l₀ l)

@@ -1,9 +1,8 @@
-use Prim.Native.Nat.{_-_, _≤_}
+use Prim.Native.Nat.{_-_}
 use lib.ListN.{length}
-use mathlib.Core.Path.{refl, sym, _∙_}
+use mathlib.Core.Path.{sym, _∙_}
 use native.Mathlib.Omega.{arith}
 use Rattle.json.proofs.Bytes.{inside=}
-use Rattle.json.specs.Ends.{Ends}
 use Rattle.fields.specs.Values.{members}
 use Rattle.fields.proofs.Walk.{item-lies, item-is, falls, no-members, first-member}
 use Rattle.nodes.specs.Nodes.{propertyMember}
@@ -13,14 +12,6 @@ use Rattle.nodes.proofs.Nodes.{ofProperties, one-property, adds-one}
 use borrow.Author.Needs.{needs}
 use Rattle.nodes.proofs.add_properties.Statement.{statement}
 use Rattle.nodes.proofs.add_properties.Tie as tie
-use Rattle.nodes.proofs.add_properties.Reads as reads
-use Rattle.nodes.proofs.add_properties.Lts as lts
-use Rattle.faults.proofs.earlier.Reads as earlier-reads
-use Rattle.json.proofs.member_by.Reads as member-by-reads
-use Rattle.json.proofs.peek.Reads as peek-reads
-use Rattle.json.proofs.skip.Reads as skip-reads
-use Rattle.nodes.proofs.property_member.Reads as property-member-reads
-use Rattle.properties.proofs.insert.Reads as insert-reads
 
 abbrev Inv-loop : tie.InvT-loop
 Inv-loop s node at ends told₀ list₀ i₀ told list i = Looping s ends i (Turn (ofProperties s node at) s i (members s at) (lists told₀ list₀) (lists told list))

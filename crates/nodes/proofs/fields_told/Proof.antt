@@ -6,11 +6,6 @@ use Rattle.nodes.proofs.Nodes.{told-of}
 use borrow.Author.Needs.{needs}
 use Rattle.nodes.proofs.fields_told.Statement.{statement}
 use Rattle.nodes.proofs.fields_told.Tie as tie
-use Rattle.nodes.proofs.fields_told.Reads as reads
-use Rattle.nodes.proofs.fields_told.Lts as lts
-use Rattle.faults.proofs.earlier.Reads as earlier-reads
-use Rattle.fields.proofs.field_at.Reads as field-at-reads
-use Rattle.fields.proofs.field_told.Reads as field-told-reads
 
 field-at-requires : tie.Need-field-at-requires
 field-at-requires c κs = search needs

@@ -3,10 +3,6 @@ use Rattle.nodes.proofs.Nodes.{ofNodes, lists-none, lists-some}
 use borrow.Author.Needs.{needs}
 use Rattle.nodes.proofs.nodes_in.Statement.{statement}
 use Rattle.nodes.proofs.nodes_in.Tie as tie
-use Rattle.nodes.proofs.nodes_in.Reads as reads
-use Rattle.nodes.proofs.nodes_in.Lts as lts
-use Rattle.nodes.proofs.add_nodes.Reads as add-nodes-reads
-use Rattle.properties.proofs.empty.Reads as empty-reads
 
 empty-requires : tie.Need-empty-requires
 empty-requires c κs = search needs

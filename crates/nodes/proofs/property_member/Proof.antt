@@ -3,13 +3,6 @@ use Rattle.nodes.proofs.Nodes.{member-judged}
 use borrow.Author.Needs.{needs}
 use Rattle.nodes.proofs.property_member.Statement.{statement}
 use Rattle.nodes.proofs.property_member.Tie as tie
-use Rattle.nodes.proofs.property_member.Reads as reads
-use Rattle.nodes.proofs.property_member.Lts as lts
-use Rattle.faults.proofs.earlier.Reads as earlier-reads
-use Rattle.fields.proofs.comes_first.Reads as comes-first-reads
-use Rattle.fields.proofs.id_name_told.Reads as id-name-told-reads
-use Rattle.nodes.proofs.past_most.Reads as past-most-reads
-use Rattle.nodes.proofs.property_value.Reads as property-value-reads
 
 comes-first-requires : tie.Need-comes-first-requires
 comes-first-requires c κs = search needs
@@ -30,7 +23,7 @@ earlier-requires-2 : tie.Need-earlier-requires-2
 earlier-requires-2 c κs = search needs
 
 returns : tie.Need-returns
-returns c = λ h w e. member-judged _ _ _ _ _ e _ (c .before .before .before .before .before .before .comes-first .ensures h w) (c .before .before .before .before .before .property-value .ensures h) (c .before .before .before .id-name-told .ensures h) (c .before .before .past-most .ensures) (c .before .earlier .ensures) (c .earlier2 .ensures) refl
+returns c = λ h w e. member-judged _ _ _ _ _ e _ (c .before .before .before .before .before .before .comes-first .ensures h w) (c .before .before .before .before .before .property-value .ensures h) (c .before .before .before .id-name-told .ensures h) (c .before .before .past-most .ensures h) (c .before .earlier .ensures) (c .earlier2 .ensures) refl
 
 pub property-member-spec : {M : Type 1} → statement M
 property-member-spec =

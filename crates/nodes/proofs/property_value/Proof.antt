@@ -3,10 +3,6 @@ use Rattle.nodes.proofs.Nodes.{judged-first, judged-again}
 use borrow.Author.Needs.{needs}
 use Rattle.nodes.proofs.property_value.Statement.{statement}
 use Rattle.nodes.proofs.property_value.Tie as tie
-use Rattle.nodes.proofs.property_value.Reads as reads
-use Rattle.nodes.proofs.property_value.Lts as lts
-use Rattle.properties.proofs.blank.Reads as blank-reads
-use Rattle.properties.proofs.property_at.Reads as property-at-reads
 
 property-at-requires : tie.Need-property-at-requires
 property-at-requires c κs = search needs

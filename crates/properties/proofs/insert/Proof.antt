@@ -6,28 +6,34 @@ use Rattle.json.specs.Ends.{Ends}
 use Rattle.properties.specs.Property.{insert}
 use Rattle.properties.specs.Entries.{content, contents}
 use Rattle.properties.proofs.Good.{full}
-use Rattle.properties.proofs.Insertion.{Carrying, carry-start, carry-swap, carry-keep, stays-full, is-inserted}
+use Rattle.properties.proofs.Insertion.{both-plain, Carrying, carry-start, carry-swap, carry-keep, stays-full, is-inserted}
 use borrow.Author.Needs.{needs}
 use Rattle.properties.proofs.insert.Statement.{statement}
 use Rattle.properties.proofs.insert.Tie as tie
 
 abbrev Inv-loop : tie.InvT-loop
-Inv-loop s e ends n items₀ node id carry₀ placed₀ j₀ items carry placed j = Carrying (Ends s ends) s n e (insert (content s e) (contents s (take n items₀))) items carry placed j
+Inv-loop s e ends n items₀ node id plain carry₀ placed₀ j₀ items carry placed j = Carrying (Ends s ends) s n e (insert (content s e) (contents s (take n items₀))) items carry placed j
 
 abbrev μ-loop : tie.MeasureT-loop
-μ-loop s e ends n items₀ node id carry₀ placed₀ j₀ items carry placed j = n - j
+μ-loop s e ends n items₀ node id plain carry₀ placed₀ j₀ items carry placed j = n - j
 
 returns : tie.Need-returns Inv-loop μ-loop
 returns c = λ h. stays-full _ _ _ _ (omega arith) refl
 
-string-bytes-by-requires : tie.Need-string-bytes-by-requires Inv-loop μ-loop
-string-bytes-by-requires c κs = search needs
+raw-bytes-by-requires : tie.Need-raw-bytes-by-requires Inv-loop μ-loop
+raw-bytes-by-requires c κs = search needs
 
-string-bytes-by-requires-2 : tie.Need-string-bytes-by-requires-2 Inv-loop μ-loop
-string-bytes-by-requires-2 c κs = search needs
+raw-bytes-by-requires-2 : tie.Need-raw-bytes-by-requires-2 Inv-loop μ-loop
+raw-bytes-by-requires-2 c κs = search needs
+
+is-plain-by-requires : tie.Need-is-plain-by-requires Inv-loop μ-loop
+is-plain-by-requires c κs = search needs
+
+is-plain-by-requires-2 : tie.Need-is-plain-by-requires-2 Inv-loop μ-loop
+is-plain-by-requires-2 c κs = search needs
 
 loop-holds : tie.Need-loop-holds Inv-loop μ-loop
-loop-holds c = carry-start _ _ _ _ (omega arith) (full (c .before .before .before .before .before .before .args .l) _ (c .before .before .before .before .before .before .good .1 .1 .0))
+loop-holds c = carry-start _ _ _ _ (omega arith) (full (c .before .before .before .before .before .before .before .before .args .l) _ (c .before .before .before .before .before .before .before .before .good .1 .1 .0))
 
 mul-y : tie.Need-mul-y Inv-loop μ-loop
 mul-y c = search needs
@@ -57,13 +63,13 @@ loop-less : tie.Need-loop-less Inv-loop μ-loop
 loop-less c = search needs
 
 loop-again : tie.Need-loop-again Inv-loop μ-loop
-loop-again c = carry-swap _ _ _ _ _ _ _ _ _ (c .before .before .before .before .before .loop .inv) (c .before .before .before .before .loop-test .taken) (λ g. c .before .before .takes-place .ensures _ (c .before .before .before .before .before .before .before .string-bytes-by .ensures g) (c .before .before .before .before .before .before .string-bytes-by2 .ensures g) g) (c .before .if2 .taken)
+loop-again c = carry-swap _ _ _ _ _ _ _ _ _ (c .before .before .before .before .before .loop .inv) (c .before .before .before .before .loop-test .taken) (λ g. c .before .before .takes-place .ensures g _ (both-plain _ _ _ (c .before .before .before .before .before .before .before .before .before .raw-bytes-by .ensures g) (c .before .before .before .before .before .before .before .before .raw-bytes-by2 .ensures g) (c .before .before .before .before .before .before .before .is-plain-by .ensures g) (c .before .before .before .before .before .before .is-plain-by2 .ensures g))) (c .before .if2 .taken)
 
 loop-less-2 : tie.Need-loop-less-2 Inv-loop μ-loop
 loop-less-2 c = search needs
 
 loop-again-2 : tie.Need-loop-again-2 Inv-loop μ-loop
-loop-again-2 c = carry-keep _ _ _ _ _ _ _ _ _ (c .before .before .before .before .loop .inv) (c .before .before .before .loop-test .taken) (λ g. c .before .takes-place .ensures _ (c .before .before .before .before .before .before .string-bytes-by .ensures g) (c .before .before .before .before .before .string-bytes-by2 .ensures g) g) (c .if2 .left)
+loop-again-2 c = carry-keep _ _ _ _ _ _ _ _ _ (c .before .before .before .before .loop .inv) (c .before .before .before .loop-test .taken) (λ g. c .before .takes-place .ensures g _ (both-plain _ _ _ (c .before .before .before .before .before .before .before .before .raw-bytes-by .ensures g) (c .before .before .before .before .before .before .before .raw-bytes-by2 .ensures g) (c .before .before .before .before .before .before .is-plain-by .ensures g) (c .before .before .before .before .before .is-plain-by2 .ensures g))) (c .if2 .left)
 
 mul-items-2 : tie.Need-mul-items-2 Inv-loop μ-loop
 mul-items-2 c = search needs
@@ -71,11 +77,11 @@ mul-items-2 c = search needs
 array-set-from-items-2 : tie.Need-array-set-from-items-2 Inv-loop μ-loop
 array-set-from-items-2 c = search needs
 
-add-t27 : tie.Need-add-t27 Inv-loop μ-loop
-add-t27 c = search needs
+add-t29 : tie.Need-add-t29 Inv-loop μ-loop
+add-t29 c = search needs
 
 returns-2 : tie.Need-returns-2 Inv-loop μ-loop
-returns-2 c = λ h. is-inserted _ _ _ _ (c .before .before .before .before .before .before .before .before .args .e) (c .before .loop .inv) h (c .loop-test .left) refl refl
+returns-2 c = λ h. is-inserted _ _ _ _ (c .before .before .before .before .before .before .before .before .before .before .args .e) (c .before .loop .inv) h (c .loop-test .left) refl refl
 
 pub insert-spec : {M : Type 1} → statement M
 insert-spec =
@@ -84,8 +90,10 @@ insert-spec =
     Inv-loop
     μ-loop
     returns
-    string-bytes-by-requires
-    string-bytes-by-requires-2
+    raw-bytes-by-requires
+    raw-bytes-by-requires-2
+    is-plain-by-requires
+    is-plain-by-requires-2
     loop-holds
     mul-y
     array-copy-out-y
@@ -101,5 +109,5 @@ insert-spec =
     loop-again-2
     mul-items-2
     array-set-from-items-2
-    add-t27
+    add-t29
     returns-2)

@@ -19,14 +19,14 @@ abbrev μ-loop : tie.MeasureT-loop
 loop-holds : tie.Need-loop-holds Inv-loop μ-loop
 loop-holds c = run-none (c .before .args .s .now) (c .before .args .at) (search needs)
 
-shared-slice-read-stands : tie.Need-shared-slice-read-stands Inv-loop μ-loop
-shared-slice-read-stands c = search needs
+shared-slice-read-stands-for-itself : tie.Need-shared-slice-read-stands-for-itself Inv-loop μ-loop
+shared-slice-read-stands-for-itself c = search needs
 
-stands-requires : tie.Need-stands-requires Inv-loop μ-loop
-stands-requires c κs = search needs
+stands-for-itself-requires : tie.Need-stands-for-itself-requires Inv-loop μ-loop
+stands-for-itself-requires c κs = search needs
 
 returns : tie.Need-returns Inv-loop μ-loop
-returns c = run-over (c .before .before .before .before .loop .inv) (omega (arith, c .before .before .before .loop-test .taken)) refl (sym (c .before .stands .ensures) ∙ not-true _ (c .if1 .taken))
+returns c = run-over (c .before .before .before .before .loop .inv) (omega (arith, c .before .before .before .loop-test .taken)) refl (sym (c .before .stands-for-itself .ensures) ∙ not-true _ (c .if1 .taken))
 
 add-i : tie.Need-add-i Inv-loop μ-loop
 add-i c = search needs
@@ -35,7 +35,7 @@ loop-less : tie.Need-loop-less Inv-loop μ-loop
 loop-less c = search needs
 
 loop-again : tie.Need-loop-again Inv-loop μ-loop
-loop-again c = run-then (c .before .before .before .before .loop .inv) (run-one (c .before .before .before .before .before .before .args .s .now) (c .before .before .before .before .loop .i) _ _ refl (omega (arith, c .before .before .before .loop-test .taken)) refl (plain-of _ (sym (c .before .stands .ensures) ∙ not-false _ (c .if1 .left))))
+loop-again c = run-then (c .before .before .before .before .loop .inv) (run-one (c .before .before .before .before .before .before .args .s .now) (c .before .before .before .before .loop .i) _ _ refl (omega (arith, c .before .before .before .loop-test .taken)) refl (plain-of _ (sym (c .before .stands-for-itself .ensures) ∙ not-false _ (c .if1 .left))))
 
 returns-2 : tie.Need-returns-2 Inv-loop μ-loop
 returns-2 c = run-end (c .before .loop .inv) (omega (arith, c .loop-test .left))
@@ -47,8 +47,8 @@ plain-bytes-spec =
     Inv-loop
     μ-loop
     loop-holds
-    shared-slice-read-stands
-    stands-requires
+    shared-slice-read-stands-for-itself
+    stands-for-itself-requires
     returns
     add-i
     loop-less

@@ -1,0 +1,11 @@
+pub mod Escapes
+pub mod Steps
+pub mod Walk
+pub mod Loops
+pub mod Buffers
+pub mod Orders
+pub mod Writing
+pub mod Reading
+pub mod Sizes
+pub mod Strings
+pub mod Theorems
