@@ -5,6 +5,8 @@ use std::cmp::Ordering;
 /// The most digits of a float before its exponent.
 const FLOAT_DIGITS: usize = 18;
 const EXPONENT_LIMIT: i32 = 280;
+/// The most digits on each side of a float's dot, where there is a step.
+const SHAPE_DIGITS: usize = 9;
 
 /// An optional `-`, then digits; the value fits a signed 64-bit number.
 pub fn integer(text: &[u8]) -> Option<i64> {
@@ -20,7 +22,8 @@ pub fn integer(text: &[u8]) -> Option<i64> {
     i64::try_from(if negative { -size } else { size }).ok()
 }
 
-/// b + s * floor((2(v-b)+s) / (2s)); the step is above 0.
+/// b + s * floor((2(v-b)+s) / (2s)); the step is above 0. The numbers are
+/// integers, or floats in whole billionths.
 pub fn round_to_step(value: i64, base: i64, step: i64) -> i128 {
     let (v, b, s) = (i128::from(value), i128::from(base), i128::from(step));
     b + s * (2 * (v - b) + s).div_euclid(2 * s)
@@ -33,6 +36,10 @@ pub struct Decimal {
     /// Without leading zeros, so zero has none.
     digits: Vec<u8>,
     exponent: i32,
+    /// What it is in whole billionths, if it has the shape that goes with a
+    /// step: written without an exponent, at most nine digits before a dot and
+    /// nine behind it.
+    pub billionths: Option<i64>,
 }
 
 /// Optional `-`, digits, optionally `.` and digits, optionally `e` or `E`,
@@ -45,17 +52,29 @@ pub fn float(text: &[u8]) -> Option<Decimal> {
     if digits.len() > FLOAT_DIGITS {
         return None;
     }
+    let has_exponent = mantissa.len() < unsigned.len();
     Some(Decimal {
         negative,
         digits: without_leading_zeros(&digits).to_vec(),
         exponent: exponent - fraction.len() as i32,
+        billionths: billionths(negative, whole, fraction).filter(|_| !has_exponent),
     })
+}
+
+/// Digits count as written, leading zeros too.
+fn billionths(negative: bool, whole: &[u8], fraction: &[u8]) -> Option<i64> {
+    let zeros = SHAPE_DIGITS.checked_sub(fraction.len())?;
+    if whole.len() > SHAPE_DIGITS {
+        return None;
+    }
+    let digits = [whole, fraction, &vec![b'0'; zeros]].concat();
+    let size = digits.iter().fold(0, |sum, &d| sum * 10 + i64::from(d - b'0'));
+    Some(if negative { -size } else { size })
 }
 
 impl Decimal {
     pub fn whole(value: u32) -> Decimal {
-        let digits = value.to_string().into_bytes();
-        Decimal { negative: false, digits: without_leading_zeros(&digits).to_vec(), exponent: 0 }
+        float(value.to_string().as_bytes()).expect("a few digits")
     }
 
     pub fn is_above_zero(&self) -> bool {
@@ -200,6 +219,29 @@ mod tests {
         ];
         for text in bad {
             assert!(float(text.as_bytes()).is_none(), "{text}");
+        }
+    }
+
+    #[test]
+    fn whole_billionths() {
+        let billionths = |text: &str| float(text.as_bytes()).unwrap().billionths;
+        for (text, expected) in [
+            ("0", 0),
+            ("-0", 0),
+            ("1", 1_000_000_000),
+            ("30.2", 30_200_000_000),
+            ("-0.5", -500_000_000),
+            ("0.000000001", 1),
+            ("000000007.50", 7_500_000_000),
+            ("999999999.999999999", 999_999_999_999_999_999),
+            ("-999999999.999999999", -999_999_999_999_999_999),
+        ] {
+            assert_eq!(billionths(text), Some(expected), "{text}");
+        }
+        for outside in
+            ["1e0", "1E2", "10e-1", "0.5e1", "1234567890", "0000000001", "0000000001.5", "1.0000000000", "0.0000000001"]
+        {
+            assert_eq!(billionths(outside), None, "{outside}");
         }
     }
 

@@ -162,13 +162,29 @@ fn float_range(format: &[u8]) -> Option<Range<Decimal>> {
         _ => false,
     };
     let good = !crossed && range.step.as_ref().is_none_or(Decimal::is_above_zero);
-    good.then_some(range)
+    let has_shape = range.step.is_none() || in_billionths(&range).is_some();
+    (good && has_shape).then_some(range)
+}
+
+/// The range in whole billionths, if all its numbers have that shape.
+fn in_billionths(range: &Range<Decimal>) -> Option<Range<i64>> {
+    let part = |number: &Option<Decimal>| match number {
+        None => Some(None),
+        Some(number) => number.billionths.map(Some),
+    };
+    Some(Range { min: part(&range.min)?, max: part(&range.max)?, step: part(&range.step)? })
 }
 
 fn is_integer_payload(format: &[u8], payload: &[u8]) -> bool {
     let (Some(range), Some(value)) = (integer_range(format), integer(payload)) else {
         return false;
     };
+    is_in_range(&range, value)
+}
+
+/// Whether a number, rounded to the step, is held by min and max. With neither
+/// of them every number is.
+fn is_in_range(range: &Range<i64>, value: i64) -> bool {
     let rounded = match (range.min.or(range.max), range.step) {
         (Some(base), Some(step)) => round_to_step(value, base, step),
         _ => i128::from(value),
@@ -176,10 +192,17 @@ fn is_integer_payload(format: &[u8], payload: &[u8]) -> bool {
     range.min.is_none_or(|min| i128::from(min) <= rounded) && range.max.is_none_or(|max| rounded <= i128::from(max))
 }
 
+/// With a step the payload has the shape too, and is rounded.
 fn is_float_payload(format: &[u8], payload: &[u8]) -> bool {
     let (Some(range), Some(value)) = (float_range(format), float(payload)) else {
         return false;
     };
+    if range.step.is_some() {
+        let (Some(range), Some(value)) = (in_billionths(&range), value.billionths) else {
+            return false;
+        };
+        return is_in_range(&range, value);
+    }
     range.min.is_none_or(|min| min.compare(&value) != Ordering::Greater)
         && range.max.is_none_or(|max| value.compare(&max) != Ordering::Greater)
 }
@@ -355,7 +378,91 @@ mod tests {
     #[test]
     fn floats() {
         check(Float, ":", &["1E-2", "0.5"], &["1.", "1e+2", "", "nan"]);
-        check(Float, "0.1:1:5", &["0.1", "10e-2", "1.0", "0.7"], &["0.0999", "1.00000000000000001"]);
+        check(Float, "0.1:1", &["0.1", "10e-2", "1.0", "0.7"], &["0.0999", "1.00000000000000001"]);
+    }
+
+    // K7
+
+    #[test]
+    fn floats_are_rounded_to_a_step_and_ties_go_upward() {
+        check(
+            Float,
+            "5:30:0.5",
+            &["5", "30", "30.2", "30.249999999", "4.75", "4.9", "17.123456789", "00030.2"],
+            &["30.25", "30.5", "4.749999999", "4.5", "0", "-5"],
+        );
+        // From max, where there is no min.
+        check(Float, ":10:4", &["8", "11.999999999", "-999999999.999999999", "7.9"], &["12", "12.000000001"]);
+        check(Float, "2:6:2", &["1", "1.000000000", "2", "6.999999999"], &["0.999999999", "7"]);
+        // Steps that do not meet max: 1.9 is the last one.
+        check(Float, "1:2:0.3", &["0.85", "1", "2", "2.049999999"], &["0.849999999", "2.05", "2.2"]);
+        check(Float, "-1:-0.5:0.25", &["-1.125", "-0.6", "-0.375000001"], &["-1.125000001", "-0.375", "0"]);
+        // An odd step has no ties: half of it lies between two billionths.
+        check(Float, "0:0:0.000000001", &["0", "-0", "-0.0"], &["0.000000001", "-0.000000001"]);
+        check(Float, "0:0:0.000000002", &["0", "-0.000000001"], &["0.000000001", "-0.000000002"]);
+        check(Float, "0::3", &["-1.5", "999999999.999999999"], &["-1.500000001"]);
+        let widest = "-999999999.999999999:999999999.999999999:999999999.999999999";
+        check(Float, widest, &["999999999.999999999", "-999999999.999999999", "0", "123.456"], &["1e0"]);
+    }
+
+    /// For whole numbers the two rules are one.
+    #[test]
+    fn floats_are_rounded_as_integers_are() {
+        for format in ["2:6:2", ":10:4", "-7::3", "-3:8:5", "0:0:1", ":-4:7", "::6", "-1:9"] {
+            for value in -30..=30 {
+                let text = value.to_string();
+                assert_eq!(valid(Float, format, &text), valid(Integer, format, &text), "{format} {text}");
+            }
+        }
+    }
+
+    #[test]
+    fn floats_with_a_step_have_no_exponent_and_at_most_nine_digits_on_each_side() {
+        for format in ["::0.5", "0::0.5", ":999999999:0.5", "-999999999:999999999:0.5"] {
+            check(
+                Float,
+                format,
+                &["1", "1.5", "000000001", "0.000000000", "999999999"],
+                &["1e0", "1E0", "10e-1", "0000000001", "1234567890", "1.0000000000", "1.", ".5", ""],
+            );
+        }
+        // Without min and max the rest passes.
+        check(Float, "::1", &["-999999999.999999999", "0.4"], &["1e1"]);
+        // Without a step nothing changes.
+        check(Float, "0:", &["1e0", "1234567890.5", "0.0000000001"], &["-1e-280"]);
+    }
+
+    #[test]
+    fn float_formats_with_a_step_have_that_shape() {
+        formats(
+            Float,
+            &["::1", "1::1", ":1:1", "0.5:1:0.000000001", "-999999999.999999999::999999999", "000000001::01", "1e1:20"],
+            &[
+                "1e1:20:1",
+                "1:2e1:1",
+                "1:20:1e0",
+                "1:20:1E-1",
+                "0000000001::1",
+                ":1234567890:1",
+                "::1234567890",
+                "0.0000000000::1",
+                ":0.0000000001:1",
+                "::0.0000000001",
+                "::0",
+                "::0.000000000",
+                "::-1",
+                "::-0",
+                "2:1:1",
+                "0.000000002:0.000000001:1",
+                "1:2:",
+                "::",
+            ],
+        );
+    }
+
+    #[test]
+    fn colours_are_as_before() {
+        check(Color, "rgb", &["rgb,1e2,0.0000000001,0000000255"], &["rgb,1e3,0,0"]);
     }
 
     #[test]
@@ -450,8 +557,8 @@ mod tests {
         );
         formats(
             Float,
-            &[":", "1e1:10", "-0:0", "::0.1", "0.5::1e-280"],
-            &["", "1:0.99", "1.:2", "1:2:0.0", "1:2:-0", "1:2:", "::"],
+            &[":", "1e1:10", "-0:0", "::0.1", "0.5:1e280"],
+            &["", "1:0.99", "1.:2", "1:2:0.0", "1:2:-0", "1:2:", "::", "0.5::1e-280"],
         );
         formats(Boolean, &["false,true", "a,b"], &["", "a", "a,a", "a,", ",a", "a,b,c"]);
         formats(Enum, &["a", "a,b,c", " , a"], &["", "a,,b", "a,b,a", "a,", ","]);

@@ -469,6 +469,10 @@ fn a_bad_format_is_told_at_its_string() {
         ("integer", "1.5:"),
         ("float", "1"),
         ("float", "1.:2"),
+        ("float", "5:3e1:0.5"),
+        ("float", "5:30:5e-1"),
+        ("float", "0000000005:30:0.5"),
+        ("float", "5:30:0.0000000005"),
         ("boolean", "a,a"),
         ("boolean", ""),
         ("enum", ""),
@@ -482,6 +486,9 @@ fn a_bad_format_is_told_at_its_string() {
         refused(25, &property(&format!(r#""format": @"{format}","datatype":"{datatype}""#)));
     }
     accepted(&property(&format!(r#""datatype":"string","format":"{long}""#)));
+    for format in ["5:30:0.5", r"5\u003a30:\u0030.5", "5:3e1", "0000000005:30", "000000005:30.000000000:0.5"] {
+        accepted(&property(&format!(r#""datatype":"float","format":"{format}""#)));
+    }
 }
 
 #[test]

@@ -39,6 +39,15 @@ fn other_examples() {
     assert_eq!(payload("duration", "", "PT5M"), "yes");
 }
 
+/// K7: it rounds to 30.
+#[test]
+fn a_thermostat() {
+    assert_eq!(payload("float", "5:30:0.5", "30.2"), "yes");
+    assert_eq!(payload("float", "5:30:0.5", "30.25"), "no");
+    assert_eq!(payload("float", "5:30:0.5", "3e1"), "no");
+    assert_eq!(payload("float", "5:30", "30.2"), "no");
+}
+
 fn event(time: u64, topic: &str, payload: &str, retained: bool) -> Event {
     Event { time, topic: topic.as_bytes().to_vec(), retained, payload: payload.as_bytes().to_vec() }
 }

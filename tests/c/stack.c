@@ -127,14 +127,16 @@ static void judgements(void)
     homie5_topic_read(TEXT("homie"), TEXT("homie/5/a/$b/c/d"), out, HOMIE5_VALUES);
     homie5_topic_flag(TEXT("homie"), TEXT("homie/5/$broadcast/c/d"), out, HOMIE5_VALUES);
     homie5_is_datatype(TEXT("duration"), out, HOMIE5_VALUES);
-    homie5_is_format(HOMIE5_DATATYPE_FLOAT, 1, TEXT("-1e280:1e280:1e-280"), out, HOMIE5_VALUES);
+    homie5_is_format(HOMIE5_DATATYPE_FLOAT, 1, TEXT("-1e280:1e280"), out, HOMIE5_VALUES);
+    homie5_is_format(HOMIE5_DATATYPE_FLOAT, 1, TEXT("-999999999.999999999:999999999.999999999:0.000000001"), out, HOMIE5_VALUES);
     homie5_is_format(HOMIE5_DATATYPE_ENUM, 1, TEXT("a,b,c,d,e"), out, HOMIE5_VALUES);
 }
 
 static void payloads(void)
 {
     assert(homie5_is_payload(HOMIE5_DATATYPE_JSON, 1, TEXT(""), TEXT(NESTED)) == 1);
-    assert(homie5_is_payload(HOMIE5_DATATYPE_FLOAT, 1, TEXT("-1e280:1e280:1e-280"), TEXT("123456789012345678e-280")) == 1);
+    assert(homie5_is_payload(HOMIE5_DATATYPE_FLOAT, 1, TEXT("-1e280:1e280"), TEXT("123456789012345678e-280")) == 1);
+    assert(homie5_is_payload(HOMIE5_DATATYPE_FLOAT, 1, TEXT("-999999999.999999999:999999999.999999999:0.3"), TEXT("123456789.987654321")) == 1);
     assert(homie5_is_payload(HOMIE5_DATATYPE_INTEGER, 1, TEXT("-9223372036854775808:9223372036854775807:3"), TEXT("-1")) == 1);
     assert(homie5_is_payload(HOMIE5_DATATYPE_COLOR, 1, TEXT("rgb,hsv,xyz"), TEXT("hsv,360,1e2,99.9")) == 1);
     assert(homie5_is_payload(HOMIE5_DATATYPE_DATETIME, 1, TEXT(""), TEXT("2024-02-29T00:00:00.123456789+23:59")) == 1);

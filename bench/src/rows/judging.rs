@@ -79,11 +79,12 @@ fn format_row(name: &str, datatype: Datatype, format: &'static str) -> Row {
 }
 
 /// Valid payloads of each datatype, with a format.
-const PAYLOADS: [(&str, Datatype, &str, &str); 11] = [
+const PAYLOADS: [(&str, Datatype, &str, &str); 12] = [
     ("string", Datatype::String, "", "Küche, links neben dem Fenster"),
     ("integer", Datatype::Integer, "0:100", "58"),
     ("integer with a step", Datatype::Integer, "0:100:5", "35"),
     ("float", Datatype::Float, "-40:125", "21.53"),
+    ("float with a step", Datatype::Float, "5:30:0.5", "21.5"),
     ("boolean", Datatype::Boolean, "false,true", "true"),
     ("enum", Datatype::Enum, "off,heat,cool,auto", "auto"),
     ("color", Datatype::Color, "rgb,hsv", "rgb,255,120,0"),

@@ -168,11 +168,12 @@ const DESCRIPTIONS: [Kind; 3] = [
     ("description, emptied", || after(each(|id| describe(id, &description(id))), each(|id| describe(id, "")))),
 ];
 
-const VALUES: [Kind; 13] = [
+const VALUES: [Kind; 14] = [
     ("value, boolean", || taken(values("on", ""))),
     ("value, integer in a range", || taken(values("humidity", ""))),
     ("value, integer in a range with a step", || taken(values("level", ""))),
     ("value, float in a range", || taken(values("temperature", ""))),
+    ("value, float in a range with a step", || taken(values("setpoint", ""))),
     ("value, enum", || taken(values("mode", ""))),
     ("value, color", || taken(values("color", ""))),
     ("value, string", || taken(values("label", ""))),

@@ -4,7 +4,7 @@ use mathlib.Core.Path.{_≡_, ap, _∙_, sym, subst}
 use mathlib.Core.List.{List, [], _∷_}
 use mathlib.Core.Bool.{Bool, true, false, cond, _||_}
 use native.Mathlib.Omega.{arith}
-use lib.Dec.{eqb}
+use lib.Dec.{leb, eqb}
 use lib.ListN.{length, getD, drop, drop-of-length-le, List·getD-eq-default}
 use mir.Syntax.{w64}
 use mir.Val.{Fits}
@@ -15,7 +15,7 @@ use Rattle.numbers.specs.declared.decimals.Run.{Run}
 use Rattle.numbers.specs.declared.decimals.Run.the-variants.{Digits, TooMany}
 use Rattle.numbers.specs.declared.decimals.DecimalRead.{DecimalRead}
 use Rattle.numbers.specs.declared.decimals.DecimalRead.the-variants.{Nothing}
-use Rattle.numbers.specs.Parts.{run, meant, Kept, made, afterPower, ending, afterFraction, afterWhole}
+use Rattle.numbers.specs.Parts.{run, meant, Kept, made, afterPower, afterDigits, areFew, ending, afterFraction, afterWhole}
 
 module _ (s : List ℕ) (at : ℕ) (r : Run) (neg : Bool) (m f : ℕ) (minus : Bool) (got : meant s r ≡ run 3 0 0 (drop at s)) where
   pub none : r ≡ TooMany → Nothing ≡ afterPower neg m f minus (run 3 0 0 (drop at s))
@@ -35,13 +35,13 @@ module _ (s : List ℕ) (at : ℕ) (r : Run) (neg : Bool) (m f : ℕ) (minus : B
     unfolding afterPower
     too-far h e l = rw (← got, is, drop-of-length-le s h, lt-ltb 0 n (omega arith), lt-leb v 280 l)
 
-    pub down : length s ≤ i → (n ≡ 0 → ⊥) → v ≤ 280 → minus ≡ true → made neg m (300 - f - v) ≡ afterPower neg m f minus (run 3 0 0 (drop at s))
+    pub down : {d : DecimalRead} → length s ≤ i → (n ≡ 0 → ⊥) → v ≤ 280 → minus ≡ true → d ≡ made neg m (300 - f - v) false → d ≡ afterPower neg m f minus (run 3 0 0 (drop at s))
     unfolding afterPower
-    down h e l t = rw (← got, is, drop-of-length-le s h, lt-ltb 0 n (omega arith), le-leb v 280 l, t)
+    down h e l t k = k ∙ rw (← got, is, drop-of-length-le s h, lt-ltb 0 n (omega arith), le-leb v 280 l, t)
 
-    pub up : length s ≤ i → (n ≡ 0 → ⊥) → v ≤ 280 → minus ≡ false → made neg m (300 - f + v) ≡ afterPower neg m f minus (run 3 0 0 (drop at s))
+    pub up : {d : DecimalRead} → length s ≤ i → (n ≡ 0 → ⊥) → v ≤ 280 → minus ≡ false → d ≡ made neg m (300 - f + v) false → d ≡ afterPower neg m f minus (run 3 0 0 (drop at s))
     unfolding afterPower
-    up h e l t = rw (← got, is, drop-of-length-le s h, lt-ltb 0 n (omega arith), le-leb v 280 l, t)
+    up h e l t k = k ∙ rw (← got, is, drop-of-length-le s h, lt-ltb 0 n (omega arith), le-leb v 280 l, t)
 
 pub or-first : (c a b : ℕ) → c ≡ a → eqb c a ≡ (eqb c a || eqb c b)
 or-first c a b e = rw (eq-eqb c a e)
@@ -78,25 +78,40 @@ here-drop s i = drop-drop 1 i s
 tail-same : (s : List ℕ) (at : ℕ) → drop (suc at) s ≡ drop (at + 1) s
 tail-same s at = let e : suc at ≡ at + 1 = omega arith in ap (λ (k : ℕ). drop k s) e
 
-module _ (s : List ℕ) (at : ℕ) (neg : Bool) (m f : ℕ) where
-  pub end : length s ≤ at → made neg m (300 - f) ≡ ending neg m f (drop at s)
+module _ (s : List ℕ) (at : ℕ) (neg : Bool) (m f : ℕ) (e : Bool) (h : at < length s) (is-e : e ≡ (eqb (getD s at 0) 101 || eqb (getD s at 0) 69)) where
+  pub junk : e ≡ false → Nothing ≡ afterDigits neg m f (drop at s)
+  unfolding afterDigits
+  junk t = rw (drop-cons s at 0 h, ← is-e, t)
+
+  shape : e ≡ true → afterDigits neg m f (drop at s) ≡ cond (eqb (getD s (at + 1) 0) 45) (afterPower neg m f true (run 3 0 0 (drop (at + 2) s))) (afterPower neg m f false (run 3 0 0 (drop (at + 1) s)))
+  unfolding afterDigits
+  shape t = rw (drop-cons s at 0 h, ← is-e, t, tail-get s at, tail-drop s at, tail-same s at)
+
+  pub minus : (x : Bool) (r : DecimalRead) → e ≡ true → x ≡ eqb (getD s (at + 1) 0) 45 → x ≡ true → r ≡ afterPower neg m f true (run 3 0 0 (drop (at + 2) s)) → r ≡ afterDigits neg m f (drop at s)
+  minus x r t y z is = is ∙ sym (shape t ∙ rw (← y, z))
+
+  pub plus : (x : Bool) (r : DecimalRead) → e ≡ true → x ≡ eqb (getD s (at + 1) 0) 45 → x ≡ false → r ≡ afterPower neg m f false (run 3 0 0 (drop (at + 1) s)) → r ≡ afterDigits neg m f (drop at s)
+  plus x r t y z is = is ∙ sym (shape t ∙ rw (← y, z))
+
+-- the returns of `are_few`
+pub few : (n f : ℕ) → n ≤ 9 → leb f 9 ≡ areFew n f
+few n f h = rw (le-leb n 9 h)
+
+pub many : (n f : ℕ) → 9 < n → false ≡ areFew n f
+many n f h = rw (lt-leb n 9 h)
+
+-- the end, or an exponent
+pub end : (neg : Bool) (m n f : ℕ) {b : Bool} → b ≡ areFew n f → made neg m (300 - f) b ≡ ending neg m n f []
+unfolding ending
+end neg m n f e = rw e
+
+module _ (s : List ℕ) (at : ℕ) (neg : Bool) (m n f : ℕ) {r : DecimalRead} where
+  at-end : length s ≤ at → r ≡ ending neg m n f [] → r ≡ ending neg m n f (drop at s)
+  at-end h e = e ∙ rw (drop-of-length-le s h)
+
+  not-end : at < length s → r ≡ afterDigits neg m f (drop at s) → r ≡ ending neg m n f (drop at s)
   unfolding ending
-  end h = rw (drop-of-length-le s h)
-
-  module _ (e : Bool) (h : at < length s) (is-e : e ≡ (eqb (getD s at 0) 101 || eqb (getD s at 0) 69)) where
-    pub junk : e ≡ false → Nothing ≡ ending neg m f (drop at s)
-    unfolding ending
-    junk t = rw (drop-cons s at 0 h, ← is-e, t)
-
-    shape : e ≡ true → ending neg m f (drop at s) ≡ cond (eqb (getD s (at + 1) 0) 45) (afterPower neg m f true (run 3 0 0 (drop (at + 2) s))) (afterPower neg m f false (run 3 0 0 (drop (at + 1) s)))
-    unfolding ending
-    shape t = rw (drop-cons s at 0 h, ← is-e, t, tail-get s at, tail-drop s at, tail-same s at)
-
-    pub minus : (x : Bool) (r : DecimalRead) → e ≡ true → x ≡ eqb (getD s (at + 1) 0) 45 → x ≡ true → r ≡ afterPower neg m f true (run 3 0 0 (drop (at + 2) s)) → r ≡ ending neg m f (drop at s)
-    minus x r t y z is = is ∙ sym (shape t ∙ rw (← y, z))
-
-    pub plus : (x : Bool) (r : DecimalRead) → e ≡ true → x ≡ eqb (getD s (at + 1) 0) 45 → x ≡ false → r ≡ afterPower neg m f false (run 3 0 0 (drop (at + 1) s)) → r ≡ ending neg m f (drop at s)
-    plus x r t y z is = is ∙ sym (shape t ∙ rw (← y, z))
+  not-end h e = e ∙ rw (drop-cons s at 0 h)
 
 -- what a run that was read keeps
 kept : (s : List ℕ) (limit : ℕ) (r : Run) (v n i : ℕ) → r ≡ Digits v n i → Kept s limit r → (i ≤ length s) × (n ≤ limit) × (v < 10 ^ n)
@@ -142,9 +157,15 @@ module _ (s : List ℕ) (at n m : ℕ) (neg : Bool) (r : Run) (got : meant s r �
     unfolding afterFraction
     f-bad h = rw (← got, is, le-ltb n k h)
 
-    pub f-good : (d : DecimalRead) → n < k → d ≡ ending neg v (k - n) (drop i s) → d ≡ afterFraction neg n (run 18 m n (drop at s))
+    f-good : (d : DecimalRead) → n < k → d ≡ ending neg v n (k - n) (drop i s) → d ≡ afterFraction neg n (run 18 m n (drop at s))
     unfolding afterFraction
     f-good d h e = rw (← got, is, lt-ltb n k h) e
+
+    pub f-power : (d : DecimalRead) → n < k → i < length s → d ≡ afterDigits neg v (k - n) (drop i s) → d ≡ afterFraction neg n (run 18 m n (drop at s))
+    f-power d h l e = f-good d h (not-end s i neg v n (k - n) l e)
+
+    pub f-end : (d : DecimalRead) → n < k → length s ≤ i → d ≡ ending neg v n (k - n) [] → d ≡ afterFraction neg n (run 18 m n (drop at s))
+    f-end d h l e = f-good d h (at-end s i neg v n (k - n) l e)
 
 module _ (s : List ℕ) (at : ℕ) (neg : Bool) (r : Run) (got : meant s r ≡ run 18 0 0 (drop at s)) where
   pub w-none : r ≡ TooMany → Nothing ≡ afterWhole neg (run 18 0 0 (drop at s))
@@ -156,12 +177,15 @@ module _ (s : List ℕ) (at : ℕ) (neg : Bool) (r : Run) (got : meant s r ≡ r
     unfolding afterWhole
     w-bad h = rw (← got, is, le-ltb 0 n (omega arith))
 
-    shape-w : (n ≡ 0 → ⊥) → afterWhole neg (run 18 0 0 (drop at s)) ≡ cond (eqb (getD s i 0) 46) (afterFraction neg n (run 18 v n (drop (i + 1) s))) (ending neg v 0 (drop i s))
+    shape-w : (n ≡ 0 → ⊥) → afterWhole neg (run 18 0 0 (drop at s)) ≡ cond (eqb (getD s i 0) 46) (afterFraction neg n (run 18 v n (drop (i + 1) s))) (ending neg v n 0 (drop i s))
     unfolding afterWhole
     shape-w h = rw (← got, is, lt-ltb 0 n (omega arith), here-get s i, here-drop s i)
 
     pub w-point : (d : DecimalRead) (p : Bool) → (n ≡ 0 → ⊥) → p ≡ eqb (getD s i 0) 46 → p ≡ true → d ≡ afterFraction neg n (run 18 v n (drop (i + 1) s)) → d ≡ afterWhole neg (run 18 0 0 (drop at s))
     w-point d p h e t x = x ∙ sym (shape-w h ∙ rw (← e, t))
 
-    pub w-end : (d : DecimalRead) (p : Bool) → (n ≡ 0 → ⊥) → p ≡ eqb (getD s i 0) 46 → p ≡ false → d ≡ ending neg v 0 (drop i s) → d ≡ afterWhole neg (run 18 0 0 (drop at s))
-    w-end d p h e t x = x ∙ sym (shape-w h ∙ rw (← e, t))
+    pub w-power : (d : DecimalRead) (p : Bool) → (n ≡ 0 → ⊥) → i < length s → p ≡ eqb (getD s i 0) 46 → p ≡ false → d ≡ afterDigits neg v 0 (drop i s) → d ≡ afterWhole neg (run 18 0 0 (drop at s))
+    w-power d p h l e t x = not-end s i neg v n 0 l x ∙ sym (shape-w h ∙ rw (← e, t))
+
+    pub w-end : (d : DecimalRead) → (n ≡ 0 → ⊥) → length s ≤ i → d ≡ ending neg v n 0 [] → d ≡ afterWhole neg (run 18 0 0 (drop at s))
+    w-end d h l x = at-end s i neg v n 0 l x ∙ sym (shape-w h ∙ rw (← past-end s i 46 (omega arith) l))

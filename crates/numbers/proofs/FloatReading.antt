@@ -18,7 +18,7 @@ use Rattle.numbers.specs.Digits.{isDigit, numeral, number}
 use Rattle.numbers.specs.Grammar.{float-text}
 use Rattle.numbers.specs.Whole.{signed, minus, between, stands}
 use Rattle.numbers.specs.Decimal.{Scientific, isE, decimal, decimalRead}
-use Rattle.numbers.specs.Parts.{allDigits, Found, found, over, run, made, afterPower, ending, afterFraction, afterWhole}
+use Rattle.numbers.specs.Parts.{allDigits, Found, found, over, run, made, afterPower, afterDigits, areFew, ending, afterFraction, afterWhole}
 use Rattle.numbers.proofs.Difference.{sub-eq, add-sub, neg-pos, pos-sub}
 use Rattle.abnf.proofs.Steps.{both}
 use Rattle.abnf.proofs.Accepts.{and-both}
@@ -70,24 +70,24 @@ abbrev answer : Bool → ℕ → ℕ → ℤ → Option Scientific
 answer neg m f z = cond (between (negℤ (pos 280)) (pos 280) z) (some (record { negative = neg; mantissa = m; exponent = z -ℤ pos f })) none
 
 module _ (neg : Bool) (m f : ℕ) (few : f ≤ 18) where
-  made-is : (n : ℕ) (z : ℤ) → stands 300 n ≡ z -ℤ pos f → decimalRead (made neg m n) ≡ some (record { negative = neg; mantissa = m; exponent = z -ℤ pos f })
-  made-is n z e = ap (λ (y : ℤ). some (record { negative = neg; mantissa = m; exponent = y })) e
+  made-is : (n : ℕ) (z : ℤ) (b : Bool) → stands 300 n ≡ z -ℤ pos f → decimalRead (made neg m n b) ≡ some (record { negative = neg; mantissa = m; exponent = z -ℤ pos f })
+  made-is n z b e = ap (λ (y : ℤ). some (record { negative = neg; mantissa = m; exponent = y })) e
 
   -- an exponent of size e
-  sized : (below : Bool) (e : ℕ) → decimalRead (cond (leb e 280) (made neg m (cond below (300 - f - e) (300 - f + e))) Nothing) ≡ answer neg m f (signed below e)
+  sized : (below : Bool) (e : ℕ) → decimalRead (cond (leb e 280) (made neg m (cond below (300 - f - e) (300 - f + e)) false) Nothing) ≡ answer neg m f (signed below e)
   sized true e =
       pick (decLe e 280)
       ∙ ap (λ (t : Bool). cond t (some (record { negative = neg; mantissa = m; exponent = signed true e -ℤ pos f })) none) (sym (between-minus 280 280 e))
     where
-      pick : Dec (e ≤ 280) → decimalRead (cond (leb e 280) (made neg m (300 - f - e)) Nothing) ≡ cond (leb e 280) (some (record { negative = neg; mantissa = m; exponent = signed true e -ℤ pos f })) none
-      pick (yes h) = rw (le-leb e 280 h) (made-is (300 - f - e) (signed true e) (shifted 0 e f (300 - f - e) (signed true e) (neg-pos e) (omega arith)))
+      pick : Dec (e ≤ 280) → decimalRead (cond (leb e 280) (made neg m (300 - f - e) false) Nothing) ≡ cond (leb e 280) (some (record { negative = neg; mantissa = m; exponent = signed true e -ℤ pos f })) none
+      pick (yes h) = rw (le-leb e 280 h) (made-is (300 - f - e) (signed true e) false (shifted 0 e f (300 - f - e) (signed true e) (neg-pos e) (omega arith)))
       pick (no h) = rw (lt-leb e 280 (omega arith))
   sized false e =
       pick (decLe e 280)
       ∙ ap (λ (t : Bool). cond t (some (record { negative = neg; mantissa = m; exponent = signed false e -ℤ pos f })) none) (sym (between-plus 280 280 e))
     where
-      pick : Dec (e ≤ 280) → decimalRead (cond (leb e 280) (made neg m (300 - f + e)) Nothing) ≡ cond (leb e 280) (some (record { negative = neg; mantissa = m; exponent = signed false e -ℤ pos f })) none
-      pick (yes h) = rw (le-leb e 280 h) (made-is (300 - f + e) (signed false e) (shifted e 0 f (300 - f + e) (signed false e) (pos-sub e) (omega arith)))
+      pick : Dec (e ≤ 280) → decimalRead (cond (leb e 280) (made neg m (300 - f + e) false) Nothing) ≡ cond (leb e 280) (some (record { negative = neg; mantissa = m; exponent = signed false e -ℤ pos f })) none
+      pick (yes h) = rw (le-leb e 280 h) (made-is (300 - f + e) (signed false e) false (shifted e 0 f (300 - f + e) (signed false e) (pos-sub e) (omega arith)))
       pick (no h) = rw (lt-leb e 280 (omega arith))
 
   after-power : (below : Bool) (e : ℕ) (es : List ℕ) → allDigits (e ∷ es) ≡ true → length (e ∷ es) ≤ 3 → decimalRead (afterPower neg m f below (run 3 0 0 (e ∷ es))) ≡ answer neg m f (exponent below (e ∷ es))
@@ -97,11 +97,11 @@ module _ (neg : Bool) (m f : ℕ) (few : f ≤ 18) where
       (ap (λ (t : List ℕ). run 3 0 0 t) (sym (append-nil (e ∷ es))) ∙ run-through 3 0 0 (length (e ∷ es)) (e ∷ es) [] a refl (omega arith) l)
       ∙ rw (lt-ltb 0 (length (e ∷ es)) (omega arith)) (sized below (number (e ∷ es)))
 
-  ending-is : (c : ℕ) (below : Bool) (es : List ℕ) → isE c ≡ true → allDigits es ≡ true → length es ≤ 3 → decimalRead (ending neg m f (powered c below es)) ≡ answer neg m f (exponent below es)
-  unfolding ending
-  ending-is c below [] i a l = made-is (300 - f) (pos 0) (shifted 0 0 f (300 - f) (pos 0) (pos-sub 0) (omega arith))
-  ending-is c true (e ∷ es) i a l = rw i (after-power true e es a l)
-  ending-is c false (e ∷ es) i a l = rw (i, minus-sign false (e ∷ es) (uncons-digits e es a .0)) (after-power false e es a l)
+  ending-is : (n c : ℕ) (below : Bool) (es : List ℕ) → isE c ≡ true → allDigits es ≡ true → length es ≤ 3 → decimalRead (ending neg m n f (powered c below es)) ≡ answer neg m f (exponent below es)
+  unfolding ending afterDigits
+  ending-is n c below [] i a l = made-is (300 - f) (pos 0) (areFew n f) (shifted 0 0 f (300 - f) (pos 0) (pos-sub 0) (omega arith))
+  ending-is n c true (e ∷ es) i a l = rw i (after-power true e es a l)
+  ending-is n c false (e ∷ es) i a l = rw (i, minus-sign false (e ∷ es) (uncons-digits e es a .0)) (after-power false e es a l)
 
 -- after digits comes no digit
 module _ (c : ℕ) (below : Bool) (i : isE c ≡ true) where
@@ -122,7 +122,7 @@ module _ (neg : Bool) (ws : List ℕ) (c : ℕ) (below : Bool) (es : List ℕ) w
   whole-run : (fs : List ℕ) → Shaped ws fs c es → length ws ≤ 18 → run 18 0 0 (ws ++ (dotted fs ++ powered c below es)) ≡ found (number ws) (length ws) (dotted fs ++ powered c below es)
   whole-run fs h l = run-through 18 0 0 (length ws) ws (dotted fs ++ powered c below es) (h .whole) (dotted-stops c below (h .letter) fs es) (omega arith) l
 
-  short : (fs : List ℕ) → Shaped ws fs c es → length ws + length fs ≤ 18 → afterWhole neg (run 18 0 0 (ws ++ (dotted fs ++ powered c below es))) ≡ ending neg (number (ws ++ fs)) (length fs) (powered c below es)
+  pub short : (fs : List ℕ) → Shaped ws fs c es → length ws + length fs ≤ 18 → afterWhole neg (run 18 0 0 (ws ++ (dotted fs ++ powered c below es))) ≡ ending neg (number (ws ++ fs)) (length ws) (length fs) (powered c below es)
   unfolding afterWhole afterFraction
   short [] h l =
       let p = h .some-whole in
@@ -131,9 +131,9 @@ module _ (neg : Bool) (ws : List ℕ) (c : ℕ) (below : Bool) (es : List ℕ) w
       let p = h .some-whole in
       rw
       (whole-run (f ∷ fs) h (omega arith), lt-ltb 0 (length ws) p, run-through 18 (number ws) (length ws) (length ws + length (f ∷ fs)) (f ∷ fs) (powered c below es) (h .behind) (powered-stops c below (h .letter) es) refl l, lt-ltb (length ws) (length ws + length (f ∷ fs)) (omega arith), numeral-append 0 ws (f ∷ fs))
-      (ap (λ (k : ℕ). ending neg (numeral (number ws) (f ∷ fs)) k (powered c below es)) (let j : length ws + length (f ∷ fs) - length ws ≡ length (f ∷ fs) = omega arith in j))
+      (ap (λ (k : ℕ). ending neg (numeral (number ws) (f ∷ fs)) (length ws) k (powered c below es)) (let j : length ws + length (f ∷ fs) - length ws ≡ length (f ∷ fs) = omega arith in j))
 
-  long : (fs : List ℕ) → Shaped ws fs c es → 18 < length ws + length fs → afterWhole neg (run 18 0 0 (ws ++ (dotted fs ++ powered c below es))) ≡ Nothing
+  pub long : (fs : List ℕ) → Shaped ws fs c es → 18 < length ws + length fs → afterWhole neg (run 18 0 0 (ws ++ (dotted fs ++ powered c below es))) ≡ Nothing
   unfolding afterWhole afterFraction
   long fs h l = pick fs h l (decLe (length ws) 18)
     where
@@ -144,20 +144,23 @@ module _ (neg : Bool) (ws : List ℕ) (c : ℕ) (below : Bool) (es : List ℕ) w
           let p = k .some-whole in
           rw (whole-run (g ∷ gs) k n, lt-ltb 0 (length ws) p, run-over 18 (number ws) (length ws) (g ∷ gs) (powered c below es) (k .behind) n u)
 
+-- the sign is read first
+pub reader-sign : (neg : Bool) (ws fs : List ℕ) (c : ℕ) (below : Bool) (es : List ℕ) → Shaped ws fs c es → reader (text neg ws fs c below es) ≡ afterWhole neg (run 18 0 0 (ws ++ (dotted fs ++ powered c below es)))
+reader-sign neg ws fs c below es h =
+    let t = ws ++ (dotted fs ++ powered c below es) in
+    let st : isDigit (getD t 0 0) ≡ true = starts neg ws fs c below es h in
+    ap (λ (b : Bool). afterWhole b (run 18 0 0 (unsigned (sign neg ++ t)))) (minus-sign neg t st)
+    ∙ ap (λ (l : List ℕ). afterWhole neg (run 18 0 0 l)) (unsigned-sign neg t st)
+
 -- on a text of the grammar the reader gives what the rule says
 on-text : (neg : Bool) (ws fs : List ℕ) (c : ℕ) (below : Bool) (es : List ℕ) → Shaped ws fs c es → decimalRead (reader (text neg ws fs c below es)) ≡ decimal (text neg ws fs c below es)
 on-text neg ws fs c below es h =
-    let t = ws ++ (dotted fs ++ powered c below es) in
-    let st : isDigit (getD t 0 0) ≡ true = starts neg ws fs c below es h in
-    ap (λ (b : Bool). decimalRead (afterWhole b (run 18 0 0 (unsigned (sign neg ++ t))))) (minus-sign neg t st)
-    ∙ ap (λ (l : List ℕ). decimalRead (afterWhole neg (run 18 0 0 l))) (unsigned-sign neg t st)
-    ∙ pick (decLe (length ws + length fs) 18)
-    ∙ sym (decimal-is neg ws fs c below es h)
+    ap decimalRead (reader-sign neg ws fs c below es h) ∙ pick (decLe (length ws + length fs) 18) ∙ sym (decimal-is neg ws fs c below es h)
   where
     pick : Dec (length ws + length fs ≤ 18) → decimalRead (afterWhole neg (run 18 0 0 (ws ++ (dotted fs ++ powered c below es)))) ≡ cond (leb (length (ws ++ fs)) 18 && between (negℤ (pos 280)) (pos 280) (exponent below es)) (some (record { negative = neg; mantissa = number (ws ++ fs); exponent = exponent below es -ℤ pos (length fs) })) none
     pick (yes l) =
         ap decimalRead (short neg ws c below es fs h l)
-        ∙ ending-is neg (number (ws ++ fs)) (length fs) (omega arith) c below es (h .letter) (h .exponent) (h .short)
+        ∙ ending-is neg (number (ws ++ fs)) (length fs) (omega arith) (length ws) c below es (h .letter) (h .exponent) (h .short)
         ∙ rw (le-leb (length (ws ++ fs)) 18 (omega (arith, length-append ws fs)))
     pick (no l) = ap decimalRead (long neg ws c below es fs h (omega arith)) ∙ rw (lt-leb (length (ws ++ fs)) 18 (omega (arith, length-append ws fs)))
 
@@ -229,10 +232,10 @@ first-byte : (k : ℕ) (s : List ℕ) → eqb 0 k ≡ false → eqb (getD s 0 0)
 first-byte k [] z e = absurd (false≢true (sym z ∙ e))
 first-byte k (b ∷ s) z e = ap (λ (c : ℕ). c ∷ s) (eqb-true b k e)
 
-ending-cases : (neg : Bool) (m f : ℕ) (t : List ℕ) → (ending neg m f t ≡ Nothing) ⊎ Powered t
-unfolding ending
-ending-cases neg m f [] = inr (record { c = 101; neg = false; es = []; letter = refl; all = no-digits; few = omega arith; cut = refl })
-ending-cases neg m f (c ∷ cs) =
+ending-cases : (neg : Bool) (m n f : ℕ) (t : List ℕ) → (ending neg m n f t ≡ Nothing) ⊎ Powered t
+unfolding ending afterDigits
+ending-cases neg m n f [] = inr (record { c = 101; neg = false; es = []; letter = refl; all = no-digits; few = omega arith; cut = refl })
+ending-cases neg m n f (c ∷ cs) =
     cond-cases (isE c) _
     (λ i.
     both (eqb (getD cs 0 0) 45)
@@ -240,11 +243,11 @@ ending-cases neg m f (c ∷ cs) =
     (λ e. rw e (above i (power-cases neg m f false cs))))
   where
     below : isE c ≡ true → eqb (getD cs 0 0) 45 ≡ true → (afterPower neg m f true (run 3 0 0 (drop 1 cs)) ≡ Nothing) ⊎ Digited (drop 1 cs) → (afterPower neg m f true (run 3 0 0 (drop 1 cs)) ≡ Nothing) ⊎ Powered (c ∷ cs)
-    below i e (inl n) = inl n
+    below i e (inl q) = inl q
     below i e (inr d) = inr (subst (λ (l : List ℕ). Powered (c ∷ l)) (sym (first-byte 45 cs refl e)) (powered-by c true (drop 1 cs) i d))
 
     above : isE c ≡ true → (afterPower neg m f false (run 3 0 0 cs) ≡ Nothing) ⊎ Digited cs → (afterPower neg m f false (run 3 0 0 cs) ≡ Nothing) ⊎ Powered (c ∷ cs)
-    above i (inl n) = inl n
+    above i (inl q) = inl q
     above i (inr d) = inr (powered-by c false cs i d)
 
 -- digits behind the dot, and an exponent or none
@@ -260,7 +263,7 @@ fraction-cases : (neg : Bool) (m n : ℕ) (t : List ℕ) → (afterFraction neg 
 unfolding afterFraction
 fraction-cases neg m n t = pick (run-cases 18 m n t)
   where
-    ended : (k : Cut 18 m n t) (e : ℕ) → n < n + length (k .ds) → (ending neg (numeral m (k .ds)) e (k .r) ≡ Nothing) ⊎ Powered (k .r) → (ending neg (numeral m (k .ds)) e (k .r) ≡ Nothing) ⊎ Behind t
+    ended : (k : Cut 18 m n t) (e : ℕ) → n < n + length (k .ds) → (ending neg (numeral m (k .ds)) n e (k .r) ≡ Nothing) ⊎ Powered (k .r) → (ending neg (numeral m (k .ds)) n e (k .r) ≡ Nothing) ⊎ Behind t
     ended k e l (inl i) = inl i
     ended k e l (inr p) = inr (record { fs = k .ds; r = k .r; all = k .all; some = omega arith; rest = p; cut = k .cut })
 
@@ -269,7 +272,7 @@ fraction-cases neg m n t = pick (run-cases 18 m n t)
     pick (inr k) =
         subst (λ (x : Found). (afterFraction neg n x ≡ Nothing) ⊎ Behind t) (sym (k .is))
         (cond-cases (ltb n (n + length (k .ds))) _
-        (λ q. ended k (n + length (k .ds) - n) (ltb-true n (n + length (k .ds)) q) (ending-cases neg (numeral m (k .ds)) (n + length (k .ds) - n) (k .r))))
+        (λ q. ended k (n + length (k .ds) - n) (ltb-true n (n + length (k .ds)) q) (ending-cases neg (numeral m (k .ds)) n (n + length (k .ds) - n) (k .r))))
 
 -- what follows the sign
 record Unsigned (t : List ℕ) : Type 0 where
@@ -305,9 +308,9 @@ whole-cases neg t = pick (run-cases 18 0 0 t)
     plain k a l (inl i) = inl i
     plain k a l (inr p) = inr (record { ws = k .ds; fs = []; all = k .all; some = omega arith; behind = no-digits; r = k .r; rest = p; cut = k .cut })
 
-    after : (k : Cut 18 0 0 t) → 0 < 0 + length (k .ds) → (b : Bool) → eqb (getD (k .r) 0 0) 46 ≡ b → (cond b (afterFraction neg (0 + length (k .ds)) (run 18 (numeral 0 (k .ds)) (0 + length (k .ds)) (drop 1 (k .r)))) (ending neg (numeral 0 (k .ds)) 0 (k .r)) ≡ Nothing) ⊎ Unsigned t
+    after : (k : Cut 18 0 0 t) → 0 < 0 + length (k .ds) → (b : Bool) → eqb (getD (k .r) 0 0) 46 ≡ b → (cond b (afterFraction neg (0 + length (k .ds)) (run 18 (numeral 0 (k .ds)) (0 + length (k .ds)) (drop 1 (k .r)))) (ending neg (numeral 0 (k .ds)) (0 + length (k .ds)) 0 (k .r)) ≡ Nothing) ⊎ Unsigned t
     after k l true e = dot k _ l e (fraction-cases neg (numeral 0 (k .ds)) (0 + length (k .ds)) (drop 1 (k .r)))
-    after k l false e = plain k _ l (ending-cases neg (numeral 0 (k .ds)) 0 (k .r))
+    after k l false e = plain k _ l (ending-cases neg (numeral 0 (k .ds)) (0 + length (k .ds)) 0 (k .r))
 
     pick : (run 18 0 0 t ≡ over) ⊎ Cut 18 0 0 t → (afterWhole neg (run 18 0 0 t) ≡ Nothing) ⊎ Unsigned t
     pick (inl o) = inl (rw o)
@@ -315,7 +318,7 @@ whole-cases neg t = pick (run-cases 18 0 0 t)
         subst (λ (x : Found). (afterWhole neg x ≡ Nothing) ⊎ Unsigned t) (sym (k .is))
         (cond-cases (ltb 0 (0 + length (k .ds))) _ (λ q. after k (ltb-true 0 (0 + length (k .ds)) q) (eqb (getD (k .r) 0 0) 46) refl))
 
-reader-cases : (s : List ℕ) → (reader s ≡ Nothing) ⊎ Shape s
+pub reader-cases : (s : List ℕ) → (reader s ≡ Nothing) ⊎ Shape s
 reader-cases s = pick (whole-cases (minus s) (unsigned s))
   where
     pick : (reader s ≡ Nothing) ⊎ Unsigned (unsigned s) → (reader s ≡ Nothing) ⊎ Shape s
@@ -352,10 +355,10 @@ reads s =
     pick e (inl i) = ap decimalRead i ∙ not-accepted s e
     pick e (inr h) = on-shape s h
 
--- the returns of `read_decimal`
+-- the returns of `read_decimal` are the reader's
 module _ (s : List ℕ) (d : DecimalRead) (p : Bool) (has : p ≡ minus s) where
-  pub below-zero : p ≡ true → d ≡ afterWhole true (run 18 0 0 (drop 1 s)) → decimalRead d ≡ decimal s
-  below-zero t e = let i : afterWhole true (run 18 0 0 (drop 1 s)) ≡ reader s = rw (← has, t) in ap decimalRead (e ∙ i) ∙ reads s
+  pub read-below : p ≡ true → d ≡ afterWhole true (run 18 0 0 (drop 1 s)) → d ≡ reader s
+  read-below t e = let i : afterWhole true (run 18 0 0 (drop 1 s)) ≡ reader s = rw (← has, t) in e ∙ i
 
-  pub not-below : p ≡ false → d ≡ afterWhole false (run 18 0 0 (drop 0 s)) → decimalRead d ≡ decimal s
-  not-below t e = let i : afterWhole false (run 18 0 0 s) ≡ reader s = rw (← has, t) in ap decimalRead (e ∙ i) ∙ reads s
+  pub read-plain : p ≡ false → d ≡ afterWhole false (run 18 0 0 (drop 0 s)) → d ≡ reader s
+  read-plain t e = let i : afterWhole false (run 18 0 0 s) ≡ reader s = rw (← has, t) in e ∙ i

@@ -125,7 +125,7 @@ after-dotted [] = refl
 after-dotted (f ∷ fs) = append-nil (f ∷ fs)
 
 -- the exponent
-abbrev tail : Bool → List ℕ → List ℕ
+abbrev pub tail : Bool → List ℕ → List ℕ
 tail below [] = []
 tail below (e ∷ es) = sign below ++ (e ∷ es)
 
@@ -185,7 +185,7 @@ module _ (neg : Bool) (ws fs : List ℕ) (c : ℕ) (below : Bool) (es : List ℕ
       ∙ after-dotted fs)
       ∙ all-digits fs (h .behind)
 
-  after-is : after isE (text neg ws fs c below es) ≡ tail below es
+  pub after-is : after isE (text neg ws fs c below es) ≡ tail below es
   after-is =
       after-free isE (sign neg) (ws ++ (dotted fs ++ powered c below es)) (sign-free isE neg refl)
       ∙ after-free isE ws (dotted fs ++ powered c below es) (free-digits isE not-e ws (h .whole))

@@ -11,7 +11,10 @@ pub mod Texts
 pub mod Signs
 pub mod IntegerText
 pub mod FloatText
+pub mod FixedText
 pub mod FloatReading
+pub mod FixedReading
+pub mod Scaled
 pub mod Floor
 pub mod Acceptance
 pub mod Theorems

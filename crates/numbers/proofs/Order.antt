@@ -16,7 +16,7 @@ use Rattle.numbers.specs.Decimal.{exact}
 use Rattle.numbers.specs.Ratio.{Ratio, scaled, ratio, leQ}
 use Rattle.numbers.proofs.Difference.{leb-eq, pos-sub, neg-pos, le-sub, sub-lt, sub-ge}
 
-tens : (k : ℕ) → 0 < 10 ^ k
+pub tens : (k : ℕ) → 0 < 10 ^ k
 tens k = one-le-pow k 10 (lit< tt)
 
 -- x without its last k digits, i of which are still there in y
@@ -110,20 +110,20 @@ module _ (P T : ℕ) (p : 0 < P) (t : 0 < T) where
       ∙ sym (plus-minus X Y)
   signed-rescale false false X Y J K e f = rescale X Y J K e f
 
-signed-mul : (neg : Bool) (N D : ℕ) → signed neg N *ℤ pos D ≡ signed neg (N * D)
+pub signed-mul : (neg : Bool) (N D : ℕ) → signed neg N *ℤ pos D ≡ signed neg (N * D)
 signed-mul true zero D = rw (zero-mul D)
 signed-mul true (suc n) D = refl
 signed-mul false N D = refl
 
 -- m · 10^(e - k) as a fraction, and in units of 10^-k
-record AsRatio (neg : Bool) (m e k : ℕ) : Type 0 where
-  N : ℕ
-  D : ℕ
-  is : scaled neg m (subℕ e k) ≡ record { numerator = signed neg N; denominator = D }
-  some : 0 < D
-  same : m * 10 ^ e * D ≡ N * 10 ^ k
+pub record AsRatio (neg : Bool) (m e k : ℕ) : Type 0 where
+  pub N : ℕ
+  pub D : ℕ
+  pub is : scaled neg m (subℕ e k) ≡ record { numerator = signed neg N; denominator = D }
+  pub some : 0 < D
+  pub same : m * 10 ^ e * D ≡ N * 10 ^ k
 
-as-ratio : (neg : Bool) (m e k : ℕ) → AsRatio neg m e k
+pub as-ratio : (neg : Bool) (m e k : ℕ) → AsRatio neg m e k
 as-ratio neg m e k = pick (decLt e k)
   where
     below : (n : ℕ) → suc n + e ≡ k → m * 10 ^ e * 10 ^ suc n ≡ m * 10 ^ k
@@ -153,7 +153,7 @@ as-ratio neg m e k = pick (decLt e k)
       same = above (e - k) (omega arith);
     }
 
-order : (na nb : Bool) (ma ea mb eb k : ℕ) → leQ (scaled na ma (subℕ ea k)) (scaled nb mb (subℕ eb k)) ≡ leZ (signed na (ma * 10 ^ ea)) (signed nb (mb * 10 ^ eb))
+pub order : (na nb : Bool) (ma ea mb eb k : ℕ) → leQ (scaled na ma (subℕ ea k)) (scaled nb mb (subℕ eb k)) ≡ leZ (signed na (ma * 10 ^ ea)) (signed nb (mb * 10 ^ eb))
 order na nb ma ea mb eb k =
     let a : AsRatio na ma ea k = as-ratio na ma ea k in
     let b : AsRatio nb mb eb k = as-ratio nb mb eb k in

@@ -8,7 +8,7 @@ use mathlib.Core.Bool.{Bool, true, false, _||_}
 use lib.Dec.{leb, eqb}
 use lib.ListN.{length}
 use borrow.Author.Tests.{leb-true, le-leb, eqb-true}
-use Rattle.abnf.specs.Abnf.{_·_, _/_, x, opt, some, upTo, repeat}
+use Rattle.abnf.specs.Abnf.{_·_, _/_, x, opt, some, times, upTo, repeat}
 use Rattle.abnf.proofs.Lead.{Many, over, again, Lead}
 use Rattle.numbers.specs.Digits.{isDigit}
 use Rattle.numbers.specs.Grammar.{DIGIT}
@@ -89,23 +89,23 @@ front-few zero (b ∷ ds) r e l = absurd (omega arith)
 front-few (suc n) [] r e l = inr refl
 front-few (suc n) (b ∷ ds) r e l = let p = uncons-digits b ds e in inl (ds ++ r, lead-digit b (ds ++ r) (p .0), front-few n ds r (p .1) (omega arith))
 
--- 1 to 3 digits
-pub record OneToThree (s r : List ℕ) : Type 0 where
+-- 1 to n + 1 digits
+pub record OneTo (n : ℕ) (s r : List ℕ) : Type 0 where
   pub front : Front s r
   pub some : 0 < length (front .ds)
-  pub few : length (front .ds) ≤ 3
+  pub few : length (front .ds) ≤ n
 
-one-to-three : {s r : List ℕ} → Lead (repeat 1 3 DIGIT) s r → OneToThree s r
-one-to-three {s} {r} h =
-    let f = few-front 2 (h .2) in
+pub one-front : (n : ℕ) {s r : List ℕ} → Lead (times 1 DIGIT · upTo n DIGIT) s r → OneTo (suc n) s r
+one-front n {s} {r} h =
+    let f = few-front n (h .2) in
     let l = f .few in
     record { front = then-front (subst (λ (l : List ℕ). Lead DIGIT s l) (h .1 .2) (h .1 .1)) (f .front); some = omega arith; few = omega arith }
 
-three-lead : (ds r : List ℕ) → allDigits ds ≡ true → 0 < length ds → length ds ≤ 3 → Lead (repeat 1 3 DIGIT) (ds ++ r) r
-three-lead [] r e l k = absurd (omega arith)
-three-lead (b ∷ ds) r e l k =
+pub front-one : (n : ℕ) (ds r : List ℕ) → allDigits ds ≡ true → 0 < length ds → length ds ≤ suc n → Lead (times 1 DIGIT · upTo n DIGIT) (ds ++ r) r
+front-one n [] r e l k = absurd (omega arith)
+front-one n (b ∷ ds) r e l k =
     let p = uncons-digits b ds e in
-    (ds ++ r, (ds ++ r, lead-digit b (ds ++ r) (p .0), refl), front-few 2 ds r (p .1) (omega arith))
+    (ds ++ r, (ds ++ r, lead-digit b (ds ++ r) (p .0), refl), front-few n ds r (p .1) (omega arith))
 
 -- [ "-" ]
 abbrev pub sign : Bool → List ℕ
@@ -162,6 +162,28 @@ pub front-dot : (fs r : List ℕ) → allDigits fs ≡ true → Lead (opt (x 0x2
 front-dot [] r e = inr refl
 front-dot (f ∷ fs) r e = inl ((f ∷ fs) ++ r, lead-byte 46 ((f ∷ fs) ++ r), front-some (f ∷ fs) r e (omega arith))
 
+-- [ "." 1*9DIGIT ]
+pub record DottedFew (s r : List ℕ) : Type 0 where
+  pub dot : Dotted s r
+  pub few : length (dot .fs) ≤ 9
+
+pub dot-few : {s r : List ℕ} → Lead (opt (x 0x2E · repeat 1 9 DIGIT)) s r → DottedFew s r
+dot-few {s} {r} (inl h) =
+    let d = one-front 8 (h .2) in
+    record {
+      dot = record {
+        fs = d .front .ds;
+        all = d .front .all;
+        cut = is-byte 46 (h .1) ∙ ap (λ (l : List ℕ). 46 ∷ l) (d .front .cut) ∙ dotted-some (d .front .ds) r (d .some);
+      };
+      few = d .few;
+    }
+dot-few (inr h) = record { dot = record { fs = []; all = no-digits; cut = h }; few = omega arith }
+
+pub few-dot : (fs r : List ℕ) → allDigits fs ≡ true → length fs ≤ 9 → Lead (opt (x 0x2E · repeat 1 9 DIGIT)) (dotted fs ++ r) r
+few-dot [] r e l = inr refl
+few-dot (f ∷ fs) r e l = inl ((f ∷ fs) ++ r, lead-byte 46 ((f ∷ fs) ++ r), front-one 8 (f ∷ fs) r e (omega arith) l)
+
 -- [ ("e" / "E") [ "-" ] 1*3DIGIT ]
 abbrev pub powered : ℕ → Bool → List ℕ → List ℕ
 powered c neg [] = []
@@ -195,7 +217,7 @@ pub power-front : {s : List ℕ} → Lead (opt ((x 0x65 / x 0x45) · opt (x 0x2D
 power-front (inl h) =
     let c = letter-front (h .1) in
     let n = sign-front (h .2 .1) in
-    let d = one-to-three (h .2 .2) in
+    let d = one-front 2 (h .2 .2) in
     record {
       c = c .0;
       neg = n .neg;
@@ -211,4 +233,4 @@ pub front-power : (c : ℕ) (neg : Bool) (es : List ℕ) → isE c ≡ true → 
 front-power c neg [] i e l = inr refl
 front-power c neg (d ∷ es) i e l =
     inl
-    (sign neg ++ (d ∷ es), front-letter c (sign neg ++ (d ∷ es)) i, (d ∷ es, front-sign neg (d ∷ es), subst (λ (t : List ℕ). Lead (repeat 1 3 DIGIT) t []) (append-nil (d ∷ es)) (three-lead (d ∷ es) [] e (omega arith) l)))
+    (sign neg ++ (d ∷ es), front-letter c (sign neg ++ (d ∷ es)) i, (d ∷ es, front-sign neg (d ∷ es), subst (λ (t : List ℕ). Lead (repeat 1 3 DIGIT) t []) (append-nil (d ∷ es)) (front-one 2 (d ∷ es) [] e (omega arith) l)))

@@ -66,5 +66,5 @@ ofWhole n = record { negative = false; mantissa = n; exponent = pos 0 }
 
 -- what the answer of `read_decimal` says
 abbrev pub decimalRead : DecimalRead → Option Scientific
-decimalRead (Exact d) = some (exact d)
+decimalRead (Exact d fixed) = some (exact d)
 decimalRead Nothing = none

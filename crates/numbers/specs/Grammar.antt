@@ -12,3 +12,7 @@ integer-text = opt (x 0x2D) · some DIGIT
 -- "at least one digit on each side of a dot"
 abbrev pub float-text : Abnf ⊥
 float-text = opt (x 0x2D) · some DIGIT · opt (x 0x2E · some DIGIT) · opt ((x 0x65 / x 0x45) · opt (x 0x2D) · repeat 1 3 DIGIT)
+
+-- Paper 02, K7: "no exponent and at most nine whole digits and nine after a dot", as they are written
+abbrev pub fixed-text : Abnf ⊥
+fixed-text = opt (x 0x2D) · repeat 1 9 DIGIT · opt (x 0x2E · repeat 1 9 DIGIT)

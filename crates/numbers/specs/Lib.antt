@@ -5,4 +5,5 @@ pub mod Integer
 pub mod Step
 pub mod Decimal
 pub mod Ratio
+pub mod Billionths
 pub mod Parts

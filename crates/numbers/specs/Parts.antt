@@ -46,32 +46,41 @@ Kept s limit (Digits v n at) = (at ≤ length s) × (n ≤ limit) × (v < 10 ^ n
 Kept s limit TooMany = Unit {0}
 
 -- the decimal ± m · 10^(e - 300)
-abbrev pub made : Bool → ℕ → ℕ → DecimalRead
-made neg m e = Exact (record { negative = neg; mantissa = m; exponent = e })
+abbrev pub made : Bool → ℕ → ℕ → Bool → DecimalRead
+made neg m e fixed = Exact (record { negative = neg; mantissa = m; exponent = e }) fixed
 
 -- after the exponent's digits: 1 to 3, at most 280, and nothing after them; f digits were behind the dot
 unfoldable pub afterPower : Bool → ℕ → ℕ → Bool → Found → DecimalRead
-afterPower neg m f below (found e n []) = cond (ltb 0 n && leb e 280) (made neg m (cond below (300 - f - e) (300 - f + e))) Nothing
+afterPower neg m f below (found e n []) = cond (ltb 0 n && leb e 280) (made neg m (cond below (300 - f - e) (300 - f + e)) false) Nothing
 afterPower neg m f below (found e n (c ∷ cs)) = Nothing
 afterPower neg m f below over = Nothing
 
--- after the digits: the end, or an exponent
-unfoldable pub ending : Bool → ℕ → ℕ → List ℕ → DecimalRead
-ending neg m f [] = made neg m (300 - f)
-ending neg m f (c ∷ cs) =
+-- an exponent after the digits, f of which were behind the dot
+unfoldable pub afterDigits : Bool → ℕ → ℕ → List ℕ → DecimalRead
+afterDigits neg m f [] = Nothing
+afterDigits neg m f (c ∷ cs) =
     cond (isE c)
     (cond (eqb (getD cs 0 0) 45) (afterPower neg m f true (run 3 0 0 (drop 1 cs))) (afterPower neg m f false (run 3 0 0 cs)))
     Nothing
 
+-- at most nine digits before the dot and nine behind it
+abbrev pub areFew : ℕ → ℕ → Bool
+areFew n f = leb n 9 && leb f 9
+
+-- after the digits, n before the dot and f behind it: the end, or an exponent
+unfoldable pub ending : Bool → ℕ → ℕ → ℕ → List ℕ → DecimalRead
+ending neg m n f [] = made neg m (300 - f) (areFew n f)
+ending neg m n f (c ∷ cs) = afterDigits neg m f (c ∷ cs)
+
 -- after the digits behind the dot, of which there is one at least; n were before it
 unfoldable pub afterFraction : Bool → ℕ → Found → DecimalRead
-afterFraction neg n (found m k rest) = cond (ltb n k) (ending neg m (k - n) rest) Nothing
+afterFraction neg n (found m k rest) = cond (ltb n k) (ending neg m n (k - n) rest) Nothing
 afterFraction neg n over = Nothing
 
 -- after the digits before the dot, of which there is one at least
 unfoldable pub afterWhole : Bool → Found → DecimalRead
 afterWhole neg (found m n rest) =
-    cond (ltb 0 n) (cond (eqb (getD rest 0 0) 46) (afterFraction neg n (run 18 m n (drop 1 rest))) (ending neg m 0 rest)) Nothing
+    cond (ltb 0 n) (cond (eqb (getD rest 0 0) 46) (afterFraction neg n (run 18 m n (drop 1 rest))) (ending neg m n 0 rest)) Nothing
 afterWhole neg over = Nothing
 
 -- r is v - b modulo s, rounded down: v - b = (q - p) s + r

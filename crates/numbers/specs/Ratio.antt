@@ -1,5 +1,6 @@
 -- Decimals as fractions, and the order of fractions. Paper 01, "Payloads of properties": "Comparisons are of exact decimals."
 use Prim.Native.Nat.{ℕ, suc, _*_, _^_}
+use mathlib.Core.Path.{_≡_}
 use mathlib.Core.Bool.{Bool, true, _&&_}
 use lib.IntN.{ℤ, pos, negsuc, _*ℤ_}
 use lib.Signed.{leZ}
@@ -25,6 +26,10 @@ ratio d = scaled (d .negative) (d .mantissa) (d .exponent)
 -- p/q ≤ r/s where p·s ≤ r·q
 abbrev pub leQ : Ratio → Ratio → Bool
 leQ a b = leZ (a .numerator *ℤ pos (b .denominator)) (b .numerator *ℤ pos (a .denominator))
+
+-- p/q = r/s where p·s = r·q
+abbrev pub SameQ : Ratio → Ratio → Type 0
+SameQ a b = a .numerator *ℤ pos (b .denominator) ≡ b .numerator *ℤ pos (a .denominator)
 
 -- "Floats are held against min and max unrounded."
 abbrev pub notLess : Option Scientific → Scientific → Bool

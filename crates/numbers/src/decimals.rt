@@ -1,10 +1,12 @@
 // Exact decimals.
 ghost use mathlib.Core.Path.{_≡_};
 ghost use mathlib.Core.Bool.{false};
+ghost use mathlib.Core.List.{[]};
 ghost use Prim.Native.Nat.{_^_, _<_, _≤_};
 ghost use lib.ListN.{length, drop};
 ghost use Rattle.numbers.specs.Decimal.{decimal, decimalRead, exact, ofWhole};
-ghost use Rattle.numbers.specs.Parts.{run, meant, Kept, afterPower, ending, afterFraction, afterWhole};
+ghost use Rattle.numbers.specs.Billionths.{billionths, billionthsRead};
+ghost use Rattle.numbers.specs.Parts.{run, meant, Kept, made, afterPower, afterDigits, areFew, ending, afterFraction, afterWhole};
 use crate::digits::has_dot;
 use crate::digits::has_minus;
 use crate::digits::is_e;
@@ -17,8 +19,9 @@ pub struct Decimal {
     pub exponent: u64,
 }
 
+// `fixed`: the text has no exponent, and at most nine digits before a dot and nine behind it.
 pub enum DecimalRead {
-    Exact(Decimal),
+    Exact { value: Decimal, fixed: bool },
     Nothing,
 }
 
@@ -67,6 +70,20 @@ fn read_run(s: &[u8], from: usize, limit: u64, value: u64, count: u64) -> Run
     }
 }
 
+// A decimal that has an exponent.
+fn with_power(neg: bool, mant: u64, exponent: u64) -> DecimalRead
+    ensures { λ r. ⌜ r ≡ made neg mant exponent false ⌝ }
+{
+    DecimalRead::Exact {
+        value: Decimal {
+            negative: neg,
+            mantissa: mant,
+            exponent: exponent,
+        },
+        fixed: false,
+    }
+}
+
 // The exponent's digits from `at`: 1 to 3 of them, at most 280, up to the end. `f` digits were behind the dot.
 fn read_power(s: &[u8], at: usize, neg: bool, mant: u64, f: u64, below: bool) -> DecimalRead
     requires { ⌜ (at ≤ length (now s)) × (f ≤ 18) ⌝ }
@@ -84,35 +101,20 @@ fn read_power(s: &[u8], at: usize, neg: bool, mant: u64, f: u64, below: bool) ->
                 return DecimalRead::Nothing;
             }
             if below {
-                DecimalRead::Exact(Decimal {
-                    negative: neg,
-                    mantissa: mant,
-                    exponent: 300 - f - value,
-                })
+                with_power(neg, mant, 300 - f - value)
             } else {
-                DecimalRead::Exact(Decimal {
-                    negative: neg,
-                    mantissa: mant,
-                    exponent: 300 - f + value,
-                })
+                with_power(neg, mant, 300 - f + value)
             }
         }
         Run::TooMany => DecimalRead::Nothing,
     }
 }
 
-// What comes after the digits: the end, or an exponent.
-fn read_ending(s: &[u8], at: usize, neg: bool, mant: u64, f: u64) -> DecimalRead
-    requires { ⌜ (at ≤ length (now s)) × (f ≤ 18) ⌝ }
-    ensures { λ r. ⌜ r ≡ ending neg mant f (drop at (now (s .entry))) ⌝ }
+// The exponent after the digits, of which `f` were behind the dot.
+fn read_exponent(s: &[u8], at: usize, neg: bool, mant: u64, f: u64) -> DecimalRead
+    requires { ⌜ (at < length (now s)) × (f ≤ 18) ⌝ }
+    ensures { λ r. ⌜ r ≡ afterDigits neg mant f (drop at (now (s .entry))) ⌝ }
 {
-    if s.len() <= at {
-        return DecimalRead::Exact(Decimal {
-            negative: neg,
-            mantissa: mant,
-            exponent: 300 - f,
-        });
-    }
     if is_e(s[at]) {
         if has_minus(s, at + 1) {
             read_power(s, at + 2, neg, mant, f, true)
@@ -121,6 +123,29 @@ fn read_ending(s: &[u8], at: usize, neg: bool, mant: u64, f: u64) -> DecimalRead
         }
     } else {
         DecimalRead::Nothing
+    }
+}
+
+// At most nine digits before the dot and nine behind it.
+fn are_few(n: u64, f: u64) -> bool
+    ensures { λ r. ⌜ r ≡ areFew n f ⌝ }
+{
+    if n <= 9 { f <= 9 } else { false }
+}
+
+// The end after the digits, of which `n` were before the dot and `f` behind it.
+fn ended(neg: bool, mant: u64, n: u64, f: u64) -> DecimalRead
+    requires { ⌜ f ≤ 18 ⌝ }
+    ensures { λ r. ⌜ r ≡ ending neg mant n f [] ⌝ }
+{
+    let fixed = are_few(n, f);
+    DecimalRead::Exact {
+        value: Decimal {
+            negative: neg,
+            mantissa: mant,
+            exponent: 300 - f,
+        },
+        fixed: fixed,
     }
 }
 
@@ -134,11 +159,15 @@ fn read_fraction(s: &[u8], at: usize, neg: bool, mant: u64, n: u64) -> DecimalRe
             value,
             count,
             at: next,
-        } => if n < count {
-            read_ending(s, next, neg, value, count - n)
-        } else {
-            DecimalRead::Nothing
-        },
+        } => {
+            if count <= n {
+                return DecimalRead::Nothing;
+            }
+            if next < s.len() {
+                return read_exponent(s, next, neg, value, count - n);
+            }
+            ended(neg, value, n, count - n)
+        }
         Run::TooMany => DecimalRead::Nothing,
     }
 }
@@ -157,19 +186,22 @@ fn read_whole(s: &[u8], at: usize, neg: bool) -> DecimalRead
             if count == 0 {
                 return DecimalRead::Nothing;
             }
-            if has_dot(s, next) {
-                read_fraction(s, next + 1, neg, value, count)
-            } else {
-                read_ending(s, next, neg, value, 0)
+            if s.len() <= next {
+                return ended(neg, value, count, 0);
             }
+            if has_dot(s, next) {
+                return read_fraction(s, next + 1, neg, value, count);
+            }
+            read_exponent(s, next, neg, value, 0)
         }
         Run::TooMany => DecimalRead::Nothing,
     }
 }
 
-// The decimal that `s` writes.
+// The decimal that `s` writes, and whether it is fixed.
 pub fn read_decimal(s: &[u8]) -> DecimalRead
-    ensures { λ r. ⌜ decimalRead r ≡ decimal (now (s .entry)) ⌝ }
+    ensures value { λ r. ⌜ decimalRead r ≡ decimal (now (s .entry)) ⌝ }
+    ensures billionths { λ r. ⌜ billionthsRead r ≡ billionths (now (s .entry)) ⌝ }
 {
     if has_minus(s, 0) {
         read_whole(s, 1, true)

@@ -1,4 +1,5 @@
 // Numbers of payloads: integers of 64 bits, exact decimals, and rounding to a step.
+pub mod billionths;
 pub mod compare;
 pub mod decimals;
 mod digits;

@@ -13,7 +13,7 @@ ghost use Rattle.payload.specs.Formats.{isFormat, keptFormat, givenForma
 ghost use Rattle.payload.specs.Payloads.{isOf, mayBe, isPayload, isPayloadOf, isJson};
 ghost use Rattle.payload.specs.Parts.{After};
 use ranges::FloatRange;
-use ranges::IntegerRange;
+use ranges::WholeRange;
 use text::Part;
 
 // The most bytes of a kept format, and of a payload.
@@ -193,12 +193,12 @@ fn is_integer_format(f: &[u8]) -> bool
         return false;
     }
     match ranges::integer_range(f) {
-        IntegerRange::Is {
+        WholeRange::Is {
             min: _,
             max: _,
             step: _,
         } => true,
-        IntegerRange::Bad => false,
+        WholeRange::Bad => false,
     }
 }
 
@@ -209,7 +209,8 @@ fn is_float_format(f: &[u8]) -> bool
         return false;
     }
     match ranges::float_range(f) {
-        FloatRange::Is {
+        FloatRange::Exact { min: _, max: _ } => true,
+        FloatRange::Stepped {
             min: _,
             max: _,
             step: _,

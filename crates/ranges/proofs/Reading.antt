@@ -3,20 +3,23 @@ use Prim.Native.Nat.{ℕ, zero, suc, _+_, _^_, _≤_, _<_}
 use native.Mathlib.Omega.{arith}
 use mathlib.Core.Path.{_≡_, refl, sym, ap, _∙_, subst}
 use mathlib.Core.List.{List, [], _∷_}
-use mathlib.Core.Bool.{Bool, true, false, not, cond}
+use mathlib.Core.Bool.{Bool, true, false, cond}
 use mathlib.Core.Option.{Option, none, some, Option·map}
 use lib.Dec.{leb}
 use lib.IntN.{ℤ, pos, negsuc}
 use lib.Signed.{leZ}
 use lib.ListN.{length}
+use Rattle.numbers.specs.declared.steps.Bound.{Bound}
+use Rattle.numbers.specs.declared.compare.DecimalBound.{DecimalBound}
 use Rattle.numbers.specs.Integer.{integer}
-use Rattle.numbers.specs.Step.{inRange}
+use Rattle.numbers.specs.Step.{inRange, limit}
 use Rattle.numbers.specs.Whole.{aboveZero, stands}
 use Rattle.numbers.specs.Decimal.{Scientific, decimal, ofWhole}
-use Rattle.numbers.specs.Ratio.{decimalInBounds}
-use Rattle.ranges.specs.Ranges.{Range, positive, leDecimal, positiveDecimal, integerRange, floatRange, stepOf, isInteger, isFloat, isFloatUpTo}
-use Rattle.ranges.specs.Parts.{Fields, two, three, other, bound, within, keep, withStep, fromFields, ordered}
-use Rattle.ranges.specs.Answers.{stepRead}
+use Rattle.numbers.specs.Ratio.{decimalInBounds, decimalLimit}
+use Rattle.numbers.specs.Billionths.{billionths}
+use Rattle.ranges.specs.Ranges.{Range, positive, leDecimal, exactly, stepped, integerRange, floatRange, stepOf, wholeInRange, decimalInRange, isInteger, isFloat, isFloatUpTo}
+use Rattle.ranges.specs.Parts.{Fields, two, three, other, bound, within, keep, withStep, fromFields, floatFields, ordered}
+use Rattle.ranges.specs.Answers.{stepRead, wholeRange, exactRange}
 
 module _ {N : Type 0} (read : List ℕ → Option N) where
   pub bound-open : (s : List ℕ) → length s ≡ 0 → some none ≡ bound read s
@@ -58,22 +61,34 @@ step-some zero h = absurd (h refl)
 step-some (suc n) h = (n, refl)
 
 -- a range from its fields
-module _ {N : Type 0} (read : List ℕ → Option N) (le : N → N → Bool) (above : N → Bool) where
-  pub range-two : {f : Fields} {min max : List ℕ} → two min max ≡ f → within le (bound read min) (bound read max) none ≡ fromFields read le above f
-  unfolding fromFields
-  range-two e = rw (← e)
+pub range-other : {N : Type 0} (read : List ℕ → Option N) (le : N → N → Bool) (above : N → Bool) {f : Fields} → other ≡ f → none ≡ fromFields read le above f
+unfolding fromFields
+range-other read le above e = rw (← e)
 
-  pub range-other : {f : Fields} → other ≡ f → none ≡ fromFields read le above f
-  unfolding fromFields
-  range-other e = rw (← e)
+pub range-three : {N : Type 0} (read : List ℕ → Option N) (le : N → N → Bool) (above : N → Bool) {f : Fields} {min max step : List ℕ} {a b : Option (Option N)} {o : Option N} →
+    three min max step ≡ f → a ≡ bound read min → b ≡ bound read max → o ≡ read step → withStep le a b (keep above o) ≡ fromFields read le above f
+unfolding fromFields
+range-three read le above e p q h = rw (← e, p, q, h)
 
-  pub range-stepped : {f : Fields} {min max step : List ℕ} {o : Option N} → three min max step ≡ f → o ≡ keep above (read step) → withStep le (bound read min) (bound read max) o ≡ fromFields read le above f
-  unfolding fromFields
-  range-stepped e h = rw (← e, ← h)
+pub range-bounds : {N : Type 0} (read : List ℕ → Option N) (le : N → N → Bool) (above : N → Bool) {f : Fields} {min max : List ℕ} {a b : Option (Option N)} →
+    two min max ≡ f → a ≡ bound read min → b ≡ bound read max → within le a b none ≡ fromFields read le above f
+unfolding fromFields
+range-bounds read le above e p q = rw (← e, p, q)
 
-pub step-goes : (le : ℤ → ℤ → Bool) (min max : Option (Option ℤ)) (n : ℕ) → (n ≡ 0 → ⊥) → within le min max (stepRead n) ≡ withStep le min max (stepRead n)
-step-goes le min max zero h = absurd (h refl)
-step-goes le min max (suc n) h = refl
+-- a step of the code, n
+module _ (min max : Option (Option ℤ)) (n : ℕ) (o : Option ℤ) (is : stepRead n ≡ keep positive o) where
+  pub step-bad : n ≡ 0 → none ≡ withStep leZ min max (keep positive o)
+  step-bad e = rw (← is, e)
+
+  pub step-goes : {r : Option (Range ℤ)} → (n ≡ 0 → ⊥) → r ≡ within leZ min max (stepRead n) → r ≡ withStep leZ min max (keep positive o)
+  step-goes h e = let k = step-some n h in e ∙ rw (← is, k .1)
+
+-- the step of the code is the rule's, for what was read
+pub step-read : {o : Option ℤ} {n : ℕ} (z : ℤ) → o ≡ some z → n ≡ aboveZero z → stepRead n ≡ keep positive o
+step-read z e h = ap stepRead h ∙ step-above z ∙ ap (λ (o : Option ℤ). keep positive o) (sym e)
+
+pub step-none : {o : Option ℤ} → o ≡ none → stepRead 0 ≡ keep positive o
+step-none e = rw e
 
 -- the order of two bounds
 module _ {N : Type 0} (le : N → N → Bool) where
@@ -86,16 +101,27 @@ module _ {N : Type 0} (le : N → N → Bool) where
   pub no-min : {min : Option N} (max : Option N) → min ≡ none → true ≡ ordered le min max
   no-min max e = rw e
 
--- a decimal step
-module _ {d z : Scientific} {o : Option Scientific} {r : Bool} (e : some d ≡ o) (h : r ≡ leDecimal d z) (k : z ≡ ofWhole 0) where
-  low-step : r ≡ leDecimal d (ofWhole 0)
-  low-step = h ∙ ap (λ (x : Scientific). leDecimal d x) k
+-- a whole number that is rounded
+module _ (min max : Bound) (n : ℕ) {o : Option ℤ} where
+  pub whole-in : {v : ℤ} {t : Bool} → o ≡ some v → t ≡ inRange (limit (2 ^ 63) min) (limit (2 ^ 63) max) n v → t ≡ wholeInRange (some (wholeRange min max n)) o
+  whole-in e h = rw (e, step-back n) h
 
-  pub step-low : r ≡ true → none ≡ keep positiveDecimal o
-  step-low t = rw (← e, sym low-step ∙ t)
+-- a decimal that is not
+module _ (min max : DecimalBound) {o : Option Scientific} where
+  pub no-decimal : none ≡ o → false ≡ decimalInRange (some (exactRange min max)) o
+  no-decimal e = rw (← e)
 
-  pub step-high : r ≡ false → some d ≡ keep positiveDecimal o
-  step-high t = rw (← e, sym low-step ∙ t)
+  pub decimal-in : {v : Scientific} {t : Bool} → some v ≡ o → t ≡ decimalInBounds (decimalLimit min) (decimalLimit max) v → t ≡ decimalInRange (some (exactRange min max)) o
+  decimal-in e h = rw (← e) h
+
+-- the bounds of a float
+pub two-bounds : {o : Option (Range Scientific)} (min max : List ℕ) → o ≡ within leDecimal (bound decimal min) (bound decimal max) none → Option·map exactly o ≡ floatFields (two min max)
+unfolding fromFields
+two-bounds min max e = ap (Option·map exactly) e
+
+pub three-bounds : {r : Option (Range ℤ)} {a b : Option (Option ℤ)} {o : Option ℤ} (min max step : List ℕ) →
+    r ≡ withStep leZ a b (keep positive o) → a ≡ bound billionths min → b ≡ bound billionths max → o ≡ billionths step → Option·map stepped r ≡ floatFields (three min max step)
+three-bounds min max step e p q h = ap (Option·map stepped) (e ∙ range-three billionths leZ positive refl p q h)
 
 -- a payload and its range
 module _ (format s : List ℕ) where
@@ -103,25 +129,21 @@ module _ (format s : List ℕ) where
   unfolding isInteger
   no-range e = rw (← e)
 
-  pub no-integer : {r : Range ℤ} → some r ≡ integerRange format → none ≡ integer s → false ≡ isInteger format s
+  pub in-range : {r : Range ℤ} {o : Option ℤ} {t : Bool} → some r ≡ integerRange format → o ≡ integer s → t ≡ wholeInRange (some r) o → t ≡ isInteger format s
   unfolding isInteger
-  no-integer e f = rw (← e, ← f)
+  in-range e f h = rw (← e, ← f) h
 
-  pub in-integers : {min max : Option ℤ} (n : ℕ) {v : ℤ} {t : Bool} → some (record { min = min; max = max; step = stepRead n }) ≡ integerRange format → some v ≡ integer s → t ≡ inRange min max n v → t ≡ isInteger format s
-  unfolding isInteger
-  in-integers n e f h = rw (← e, ← f, step-back n) h
-
-  pub no-float-range : none ≡ floatRange format → false ≡ isFloat format s
+  pub no-bounds : none ≡ floatRange format → false ≡ isFloat format s
   unfolding isFloat
-  no-float-range e = rw (← e)
+  no-bounds e = rw (← e)
 
-  pub no-float : {r : Range Scientific} → some r ≡ floatRange format → none ≡ decimal s → false ≡ isFloat format s
+  pub in-bounds : {r : Range Scientific} {t : Bool} → some (exactly r) ≡ floatRange format → t ≡ decimalInRange (some r) (decimal s) → t ≡ isFloat format s
   unfolding isFloat
-  no-float e f = rw (← e, ← f)
+  in-bounds e h = rw (← e) h
 
-  pub in-floats : {r : Range Scientific} {v : Scientific} {t : Bool} → some r ≡ floatRange format → some v ≡ decimal s → t ≡ decimalInBounds (r .min) (r .max) v → t ≡ isFloat format s
+  pub in-steps : {r : Range ℤ} {o : Option ℤ} {t : Bool} → some (stepped r) ≡ floatRange format → o ≡ billionths s → t ≡ wholeInRange (some r) o → t ≡ isFloat format s
   unfolding isFloat
-  in-floats e f h = rw (← e, ← f) h
+  in-steps e f h = rw (← e, ← f) h
 
 module _ (most : ℕ) (s : List ℕ) where
   pub upTo-none : none ≡ decimal s → false ≡ isFloatUpTo most s

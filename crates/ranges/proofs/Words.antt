@@ -6,11 +6,11 @@ use mathlib.Core.Logic.{_↔_}
 use mathlib.Core.List.{List, [], _∷_, _++_, append-nil}
 use mathlib.Core.Bool.{Bool, true, false, not, _&&_, _||_, cond, false≢true}
 use mathlib.Core.Option.{Option, none, some, Option·map}
-use lib.Dec.{eqb}
+use lib.Dec.{ltb, eqb}
 use lib.ListN.{length, getD}
 use lib.IntN.{ℤ}
 use lib.Signed.{leZ}
-use borrow.Author.Tests.{eqb-true, not-true}
+use borrow.Author.Tests.{lt-ltb, eqb-true, not-true}
 use Rattle.abnf.specs.Abnf.{Abnf, _–_, ε, _·_, _/_, ∗_, rule, Words, byte, nothing, join, left, right, more, noRules, _∈_, x, opt}
 use Rattle.abnf.specs.Abnf as abnf
 use Rattle.abnf.specs.Accepts.{inRange, isEmpty, again, starts, accepts}
@@ -23,14 +23,15 @@ use Rattle.text.proofs.Bytes.{both, and-both}
 use Rattle.text.proofs.Repeats.{every-append}
 use Rattle.text.proofs.Theorems.{splitting, joining}
 use Rattle.numbers.specs.Digits.{digits, numeral}
-use Rattle.numbers.specs.Grammar.{integer-text, float-text}
+use Rattle.numbers.specs.Grammar.{integer-text, float-text, fixed-text}
 use Rattle.numbers.specs.Integer.{value, is64Bit, integer}
 use Rattle.numbers.specs.Decimal.{Scientific, before, after, significant, power, scientific, isSmall, decimal}
+use Rattle.numbers.specs.Billionths.{inBillionths, billionths}
 use Rattle.numbers.proofs.Acceptance.{word-value}
-use Rattle.numbers.proofs.Theorems.{integer-words, decimal-words}
-use Rattle.ranges.specs.Ranges.{Range, range-text, fieldsOf, isSome, eachRead, numbersOf, ifThere, valid, rangeOf, positive, leDecimal, positiveDecimal, integerRange, floatRange}
+use Rattle.numbers.proofs.Theorems.{integer-words, decimal-words, fixed-words}
+use Rattle.ranges.specs.Ranges.{Range, range-text, fieldsOf, isSome, eachRead, numbersOf, ifThere, valid, rangeOf, positive, leDecimal, FloatBounds, exactly, stepped, hasStep, integerRange, floatRange}
 use Rattle.ranges.specs.Promises.{numberIn, IsRange}
-use Rattle.ranges.specs.Parts.{two, three, other, counted, fields, bound, within, keep, withStep, fromFields, ordered}
+use Rattle.ranges.specs.Parts.{two, three, other, counted, fields, bound, within, keep, withStep, fromFields, floatFields, ordered}
 
 -- ---- a grammar without a byte has no word with it
 
@@ -321,6 +322,10 @@ float-plain : avoids 0x3A float-text ≡ true
 unfolding avoids
 float-plain = refl
 
+fixed-plain : avoids 0x3A fixed-text ≡ true
+unfolding avoids
+fixed-plain = refl
+
 integer-filled : accepts integer-text [] ≡ false
 unfolding accepts starts again isEmpty
 integer-filled = refl
@@ -328,6 +333,10 @@ integer-filled = refl
 float-filled : accepts float-text [] ≡ false
 unfolding accepts starts again isEmpty
 float-filled = refl
+
+fixed-filled : accepts fixed-text [] ≡ false
+unfolding accepts starts again isEmpty
+fixed-filled = refl
 
 no-integer-fits : is64Bit (value []) ≡ true
 unfolding value digits numeral
@@ -337,18 +346,86 @@ no-float-fits : isSmall [] ≡ true
 unfolding significant power before after digits numeral
 no-float-fits = refl
 
+-- the shape is a limit by itself
+pub shape-words : (s : List ℕ) (z : ℤ) → (billionths s ≡ some z) ↔ ((s ∈ fixed-text) × (true ≡ true) × (inBillionths s ≡ z))
+shape-words s z = (λ e. let w = fixed-words s z .0 e in (w .0, refl, w .1), λ h. fixed-words s z .1 (h .0, h .2))
+
 pub integer-range : (s : List ℕ) (r : Range ℤ) → (integerRange s ≡ some r) ↔ IsRange integer-text value (λ t. is64Bit (value t)) leZ positive s r
 unfolding integerRange
 integer-range s r = range-is integer-text integer value (λ t. is64Bit (value t)) leZ positive integer-plain integer-filled no-integer-fits integer-words s r
-
-pub float-range : (s : List ℕ) (r : Range Scientific) → (floatRange s ≡ some r) ↔ IsRange float-text scientific isSmall leDecimal positiveDecimal s r
-unfolding floatRange
-float-range s r = range-is float-text decimal scientific isSmall leDecimal positiveDecimal float-plain float-filled no-float-fits decimal-words s r
 
 pub integer-fields : (s : List ℕ) → fromFields integer leZ positive (fields s) ≡ integerRange s
 unfolding integerRange
 integer-fields s = fields-same integer-text integer value (λ t. is64Bit (value t)) leZ positive integer-plain integer-filled no-integer-fits integer-words s
 
-pub float-fields : (s : List ℕ) → fromFields decimal leDecimal positiveDecimal (fields s) ≡ floatRange s
-unfolding floatRange
-float-fields s = fields-same float-text decimal scientific isSmall leDecimal positiveDecimal float-plain float-filled no-float-fits decimal-words s
+-- ---- floats: without a step, and with one
+
+map-some : {A B : Type 0} (f : A → B) (o : Option A) (b : B) → Option·map f o ≡ some b → (a : A) × (o ≡ some a) × (f a ≡ b)
+map-some f none b e = let z : _≡_ {A = ℕ} 0 1 = cc in absurd (omega arith)
+map-some f (some a) b e = (a, refl, let q : f a ≡ b = cc in q)
+
+exactly-is : (a b : Range Scientific) → exactly a ≡ exactly b → a ≡ b
+exactly-is a b e = cc
+
+stepped-is : (a b : Range ℤ) → stepped a ≡ stepped b → a ≡ b
+stepped-is a b e = cc
+
+module _ (s : List ℕ) where
+  abbrev plain : Option (Range Scientific)
+  plain = rangeOf float-text decimal leDecimal (λ step. true) s
+
+  abbrev rounding : Option (Range ℤ)
+  rounding = rangeOf fixed-text billionths leZ positive s
+
+  either : floatRange s ≡ cond (hasStep s) (Option·map stepped rounding) (Option·map exactly plain)
+  unfolding floatRange
+  either = refl
+
+  plain-is : (r : Range Scientific) → (plain ≡ some r) ↔ IsRange float-text scientific isSmall leDecimal (λ step. true) s r
+  plain-is r = range-is float-text decimal scientific isSmall leDecimal (λ step. true) float-plain float-filled no-float-fits decimal-words s r
+
+  rounding-is : (r : Range ℤ) → (rounding ≡ some r) ↔ IsRange fixed-text inBillionths (λ t. true) leZ positive s r
+  rounding-is r = range-is fixed-text billionths inBillionths (λ t. true) leZ positive fixed-plain fixed-filled refl shape-words s r
+
+  pub exact-range : (r : Range Scientific) → (floatRange s ≡ some (exactly r)) ↔ ((hasStep s ≡ false) × IsRange float-text scientific isSmall leDecimal (λ step. true) s r)
+  exact-range r = (to, from)
+    where
+      to : floatRange s ≡ some (exactly r) → (hasStep s ≡ false) × IsRange float-text scientific isSmall leDecimal (λ step. true) s r
+      to e = both (hasStep s)
+          (λ t. let q = map-some stepped rounding (exactly r) (sym (either ∙ rw t) ∙ e) in let w = q .2 in let z : _≡_ {A = ℕ} 0 1 = cc in absurd (omega arith))
+          (λ t. let q = map-some exactly plain (exactly r) (sym (either ∙ rw t) ∙ e) in (t, plain-is r .0 (q .1 ∙ ap some (exactly-is (q .0) r (q .2)))))
+
+      from : (hasStep s ≡ false) × IsRange float-text scientific isSmall leDecimal (λ step. true) s r → floatRange s ≡ some (exactly r)
+      from h = either ∙ rw (h .0, plain-is r .1 (h .1))
+
+  pub stepped-range : (r : Range ℤ) → (floatRange s ≡ some (stepped r)) ↔ ((hasStep s ≡ true) × IsRange fixed-text inBillionths (λ t. true) leZ positive s r)
+  stepped-range r = (to, from)
+    where
+      to : floatRange s ≡ some (stepped r) → (hasStep s ≡ true) × IsRange fixed-text inBillionths (λ t. true) leZ positive s r
+      to e = both (hasStep s)
+          (λ t. let q = map-some stepped rounding (stepped r) (sym (either ∙ rw t) ∙ e) in (t, rounding-is r .0 (q .1 ∙ ap some (stepped-is (q .0) r (q .2)))))
+          (λ t. let q = map-some exactly plain (stepped r) (sym (either ∙ rw t) ∙ e) in let w = q .2 in let z : _≡_ {A = ℕ} 0 1 = cc in absurd (omega arith))
+
+      from : (hasStep s ≡ true) × IsRange fixed-text inBillionths (λ t. true) leZ positive s r → floatRange s ≡ some (stepped r)
+      from h = either ∙ rw (h .0, rounding-is r .1 (h .1))
+
+  plain-fields : fromFields decimal leDecimal (λ step. true) (fields s) ≡ plain
+  plain-fields = fields-same float-text decimal scientific isSmall leDecimal (λ step. true) float-plain float-filled no-float-fits decimal-words s
+
+  rounding-fields : fromFields billionths leZ positive (fields s) ≡ rounding
+  rounding-fields = fields-same fixed-text billionths inBillionths (λ t. true) leZ positive fixed-plain fixed-filled refl shape-words s
+
+by-count : (fs : List (List ℕ)) → floatFields (counted fs) ≡ cond (ltb 2 (length fs)) (Option·map stepped (fromFields billionths leZ positive (counted fs))) (Option·map exactly (fromFields decimal leDecimal (λ step. true) (counted fs)))
+unfolding counted fromFields
+by-count [] = refl
+by-count (a ∷ []) = refl
+by-count (a ∷ b ∷ []) = refl
+by-count (a ∷ b ∷ c ∷ []) = refl
+by-count (a ∷ b ∷ c ∷ d ∷ fs) = rw (lt-ltb 2 (length (a ∷ b ∷ c ∷ d ∷ fs)) (omega arith))
+
+pub float-fields : (s : List ℕ) → floatFields (fields s) ≡ floatRange s
+unfolding fields
+float-fields s = by-count (fieldsOf s)
+    ∙ ap (λ (o : Option (Range ℤ)). cond (hasStep s) (Option·map stepped o) (Option·map exactly (fromFields decimal leDecimal (λ step. true) (fields s)))) (rounding-fields s)
+    ∙ ap (λ (o : Option (Range Scientific)). cond (hasStep s) (Option·map stepped (rounding s)) (Option·map exactly o)) (plain-fields s)
+    ∙ sym (either s)

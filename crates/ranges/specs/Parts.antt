@@ -2,21 +2,23 @@
 use Prim.Native.Nat.{ℕ, _+_, _^_, _≤_, _<_}
 use mathlib.Core.Path.{_≡_}
 use mathlib.Core.List.{List, [], _∷_}
-use mathlib.Core.Bool.{Bool, cond}
+use mathlib.Core.Bool.{Bool, true, cond}
 use mathlib.Core.Option.{Option, none, some, Option·map}
 use lib.IntN.{ℤ}
 use lib.ListN.{length}
+use lib.Signed.{leZ}
 use Rattle.text.specs.Bytes.{slice}
 use Rattle.numbers.specs.Step.{limit}
-use Rattle.numbers.specs.Decimal.{Scientific}
+use Rattle.numbers.specs.Decimal.{Scientific, decimal}
 use Rattle.numbers.specs.Ratio.{decimalLimit}
+use Rattle.numbers.specs.Billionths.{billionths}
 use Rattle.ranges.specs.declared.Cuts.{Cuts}
 use Rattle.ranges.specs.declared.Cuts.the-variants.{Two, Three, Other}
-use Rattle.ranges.specs.declared.IntegerLimit.{IntegerLimit}
-use Rattle.ranges.specs.declared.IntegerLimit.the-variants as integerLimit
+use Rattle.ranges.specs.declared.WholeLimit.{WholeLimit}
+use Rattle.ranges.specs.declared.WholeLimit.the-variants as wholeLimit
 use Rattle.ranges.specs.declared.FloatLimit.{FloatLimit}
 use Rattle.ranges.specs.declared.FloatLimit.the-variants as floatLimit
-use Rattle.ranges.specs.Ranges.{Range, fieldsOf, ifThere}
+use Rattle.ranges.specs.Ranges.{Range, fieldsOf, ifThere, positive, leDecimal, FloatBounds, exactly, stepped}
 
 -- the fields of `[min]:[max][:step]`
 pub data Fields : Type 0 where
@@ -49,9 +51,9 @@ pub record CutAt (s : List ℕ) (want : Fields) (r : Cuts) : Type 0 where
   pub is : shown s r ≡ want
   pub lies : Lies s r
 
-abbrev pub integerLimitOf : IntegerLimit → Option (Option ℤ)
-integerLimitOf (integerLimit.Limit b) = some (limit (2 ^ 63) b)
-integerLimitOf integerLimit.Bad = none
+abbrev pub wholeLimitOf : WholeLimit → Option (Option ℤ)
+wholeLimitOf (wholeLimit.Limit b) = some (limit (2 ^ 63) b)
+wholeLimitOf wholeLimit.Bad = none
 
 abbrev pub floatLimitOf : FloatLimit → Option (Option Scientific)
 floatLimitOf (floatLimit.Limit b) = some (decimalLimit b)
@@ -86,3 +88,9 @@ unfolding bound
 fromFields read le above (two min max) = within le (bound read min) (bound read max) none
 fromFields read le above (three min max step) = withStep le (bound read min) (bound read max) (keep above (read step))
 fromFields read le above other = none
+
+-- the bounds of a float that the fields write
+abbrev pub floatFields : Fields → Option FloatBounds
+floatFields (two min max) = Option·map exactly (fromFields decimal leDecimal (λ step. true) (two min max))
+floatFields (three min max step) = Option·map stepped (fromFields billionths leZ positive (three min max step))
+floatFields other = none

@@ -19,7 +19,7 @@ use Rattle.ranges.specs.Ranges.{Range, range-text, fieldsOf, stepOf}
 abbrev pub numberIn : {N : Type 0} → (List ℕ → N) → List ℕ → Option N
 numberIn value f = cond (isEmpty f) none (some (value f))
 
--- Numbers of a type have the texts `number`, each of which writes a value; `fits` tells which of these texts are within the type's limits (64 bits; 18 digits and the exponent's range).
+-- Numbers of a type have the texts `number`, each of which writes a value; `fits` tells which of these texts are within the type's limits (64 bits; 18 digits and the exponent's range; texts of K7's shape are within theirs).
 pub record IsRange {N : Type 0} (number : Abnf ⊥) (value : List ℕ → N) (fits : List ℕ → Bool) (le : N → N → Bool) (above : N → Bool) (s : List ℕ) (r : Range N) : Type 0 where
   -- "`[min]:[max][:step]`"
   pub word : s ∈ range-text number
@@ -42,8 +42,8 @@ roundedTo (some b) zero v = v
 roundedTo (some b) (suc s) v = rounded b v (suc s)
 
 -- the rounded value lies within the bounds
-abbrev pub holdsInteger : Range ℤ → ℤ → Bool
-holdsInteger r v = inBounds (r .min) (r .max) (roundedTo (base (r .min) (r .max)) (stepOf (r .step)) v)
+abbrev pub holdsWhole : Range ℤ → ℤ → Bool
+holdsWhole r v = inBounds (r .min) (r .max) (roundedTo (base (r .min) (r .max)) (stepOf (r .step)) v)
 
 -- the value itself lies within the bounds
 abbrev pub holdsFloat : Range Scientific → Scientific → Bool

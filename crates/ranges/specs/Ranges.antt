@@ -1,20 +1,22 @@
--- Paper 01, "Payloads of properties": formats of integers and floats, and the payloads that they let pass.
+-- Paper 01, "Payloads of properties", with paper 02, K7: formats of integers and floats, and the payloads that they let pass.
 use Prim.Native.Nat.{ℕ}
 use mathlib.Core.List.{List, [], _∷_}
-use mathlib.Core.Bool.{Bool, true, false, not, _&&_, _||_, cond}
-use mathlib.Core.Option.{Option, none, some}
-use lib.ListN.{getD}
+use mathlib.Core.Bool.{Bool, true, false, _&&_, _||_, cond}
+use mathlib.Core.Option.{Option, none, some, Option·map}
+use lib.Dec.{ltb}
+use lib.ListN.{length, getD}
 use lib.IntN.{ℤ, pos}
 use lib.Signed.{leZ}
 use Rattle.abnf.specs.Abnf.{Abnf, _·_, x, opt}
 use Rattle.abnf.specs.Accepts.{isEmpty, accepts}
 use Rattle.text.specs.Split.{split}
-use Rattle.numbers.specs.Grammar.{integer-text, float-text}
+use Rattle.numbers.specs.Grammar.{integer-text, float-text, fixed-text}
 use Rattle.numbers.specs.Whole.{aboveZero}
 use Rattle.numbers.specs.Integer.{integer}
 use Rattle.numbers.specs.Step.{inRange}
 use Rattle.numbers.specs.Decimal.{Scientific, decimal, ofWhole}
 use Rattle.numbers.specs.Ratio.{ratio, leQ, decimalInBounds}
+use Rattle.numbers.specs.Billionths.{billionths}
 
 -- a number that is left out is none
 pub record Range (N : Type 0) : Type 0 where
@@ -63,41 +65,55 @@ positive z = leZ (pos 1) z
 abbrev pub leDecimal : Scientific → Scientific → Bool
 leDecimal a b = leQ (ratio a) (ratio b)
 
-abbrev pub positiveDecimal : Scientific → Bool
-positiveDecimal a = not (leDecimal a (ofWhole 0))
-
 unfoldable pub integerRange : List ℕ → Option (Range ℤ)
 unfolding rangeOf integer
 integerRange s = rangeOf integer-text integer leZ positive s
 
-unfoldable pub floatRange : List ℕ → Option (Range Scientific)
-unfolding rangeOf decimal
-floatRange s = rangeOf float-text decimal leDecimal positiveDecimal s
+-- a float's format: a range of exact decimals, or with a step one of whole billionths
+pub data FloatBounds : Type 0 where
+  exactly : Range Scientific → FloatBounds
+  stepped : Range ℤ → FloatBounds
+
+abbrev pub hasStep : List ℕ → Bool
+hasStep s = ltb 2 (length (fieldsOf s))
+
+-- Paper 02, K7: "A float format with a step may have no exponent and at most nine whole digits and nine after a dot in any of its numbers"
+unfoldable pub floatRange : List ℕ → Option FloatBounds
+unfolding rangeOf decimal billionths
+floatRange s =
+    cond (hasStep s) (Option·map stepped (rangeOf fixed-text billionths leZ positive s))
+    (Option·map exactly (rangeOf float-text decimal leDecimal (λ step. true) s))
 
 -- "Integer with step s: ..": the rule of crate numbers, where 0 is no step
 abbrev pub stepOf : Option ℤ → ℕ
 stepOf none = 0
 stepOf (some z) = aboveZero z
 
-abbrev pub integerInRange : Option (Range ℤ) → Option ℤ → Bool
-integerInRange none v = false
-integerInRange (some r) none = false
-integerInRange (some r) (some v) = inRange (r .min) (r .max) (stepOf (r .step)) v
+abbrev pub wholeInRange : Option (Range ℤ) → Option ℤ → Bool
+wholeInRange none v = false
+wholeInRange (some r) none = false
+wholeInRange (some r) (some v) = inRange (r .min) (r .max) (stepOf (r .step)) v
 
 -- "Floats are held against min and max unrounded."
-abbrev pub floatInRange : Option (Range Scientific) → Option Scientific → Bool
-floatInRange none v = false
-floatInRange (some r) none = false
-floatInRange (some r) (some v) = decimalInBounds (r .min) (r .max) v
+abbrev pub decimalInRange : Option (Range Scientific) → Option Scientific → Bool
+decimalInRange none v = false
+decimalInRange (some r) none = false
+decimalInRange (some r) (some v) = decimalInBounds (r .min) (r .max) v
+
+-- With a step K7: "Apply the integer rounding rule to floats, exactly, ties upward", "and the same holds for payloads of such a property"
+abbrev pub floatInRange : Option FloatBounds → List ℕ → Bool
+floatInRange none s = false
+floatInRange (some (exactly r)) s = decimalInRange (some r) (decimal s)
+floatInRange (some (stepped r)) s = wholeInRange (some r) (billionths s)
 
 -- an integer or a float of a format
 unfoldable pub isInteger : List ℕ → List ℕ → Bool
 unfolding integerRange inRange
-isInteger format s = integerInRange (integerRange format) (integer s)
+isInteger format s = wholeInRange (integerRange format) (integer s)
 
 unfoldable pub isFloat : List ℕ → List ℕ → Bool
-unfolding floatRange decimalInBounds
-isFloat format s = floatInRange (floatRange format) (decimal s)
+unfolding floatRange decimalInBounds inRange
+isFloat format s = floatInRange (floatRange format) s
 
 -- for "color: .. three of 0 to 255 .. ends included": a float from 0 to a whole number
 unfoldable pub isFloatUpTo : ℕ → List ℕ → Bool

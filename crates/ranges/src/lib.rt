@@ -1,16 +1,17 @@
 // Formats `[min]:[max][:step]` of integers and floats, and the payloads that they let pass.
 ghost use mathlib.Core.Path.{_≡_};
+ghost use mathlib.Core.Option.{some, Option·map};
 ghost use Prim.Native.Nat.{_^_};
 ghost use lib.Signed.{leZ};
-ghost use Rattle.numbers.specs.Integer.{integer};
+ghost use Rattle.numbers.specs.Integer.{integer, integerRead};
 ghost use Rattle.numbers.specs.Decimal.{decimal};
 ghost use Rattle.numbers.specs.Ratio.{decimalLimit};
+ghost use Rattle.numbers.specs.Billionths.{billionths};
 ghost use Rattle.numbers.specs.Step.{limit};
-ghost use Rattle.ranges.specs.Ranges.{positive, leDecimal, positiveDecimal, integerRange, floatRange, isInteger, isFloat, isFloatUpTo};
-ghost use Rattle.ranges.specs.Answers.{stepRead, integerRangeOf, floatRangeOf};
-ghost use Rattle.ranges.specs.Parts.{fields, CutAt, integerLimitOf, floatLimitOf, bound, ordered, within, keep};
+ghost use Rattle.ranges.specs.Ranges.{positive, leDecimal, integerRange, floatRange, wholeInRange, decimalInRange, isInteger, isFloat, isFloatUpTo};
+ghost use Rattle.ranges.specs.Answers.{stepRead, wholeRange, wholeRangeOf, exactRange, floatRangeOf};
+ghost use Rattle.ranges.specs.Parts.{two, three, fields, CutAt, wholeLimitOf, floatLimitOf, bound, ordered, within, keep, withStep, floatFields};
 use numbers::compare::DecimalBound;
-use numbers::decimals::Decimal;
 use numbers::decimals::DecimalRead;
 use numbers::integers::IntegerRead;
 use numbers::steps::Bound;
@@ -23,7 +24,8 @@ pub enum Cuts {
     Other,
 }
 
-pub enum IntegerLimit {
+// Whole numbers: integers, or floats in billionths.
+pub enum WholeLimit {
     Limit(Bound),
     Bad,
 }
@@ -34,16 +36,21 @@ pub enum FloatLimit {
 }
 
 // A step of 0 is none.
-pub enum IntegerRange {
+pub enum WholeRange {
     Is { min: Bound, max: Bound, step: u64 },
     Bad,
 }
 
+// Exact decimals, or with a step whole billionths.
 pub enum FloatRange {
-    Is {
+    Exact {
         min: DecimalBound,
         max: DecimalBound,
-        step: DecimalBound,
+    },
+    Stepped {
+        min: Bound,
+        max: Bound,
+        step: u64,
     },
     Bad,
 }
@@ -81,20 +88,37 @@ fn cut_fields(s: &[u8]) -> Cuts
     Cuts::Three(a, b)
 }
 
-// A bound, which may be left out.
-fn integer_limit(s: &[u8]) -> IntegerLimit
-    ensures { λ r. ⌜ integerLimitOf r ≡ bound integer (now (s .entry)) ⌝ }
+// A bound that was read.
+fn whole_limit(read: IntegerRead) -> WholeLimit
+    ensures { λ r. ⌜ wholeLimitOf r ≡ Option·map some (integerRead read) ⌝ }
 {
-    if s.len() == 0 {
-        return IntegerLimit::Limit(Bound::Open);
-    }
-    match numbers::integers::read_integer(s) {
-        IntegerRead::Value(n) => IntegerLimit::Limit(Bound::At(n)),
-        IntegerRead::Nothing => IntegerLimit::Bad,
+    match read {
+        IntegerRead::Value(n) => WholeLimit::Limit(Bound::At(n)),
+        IntegerRead::Nothing => WholeLimit::Bad,
     }
 }
 
-fn integer_ordered(min: Bound, max: Bound) -> bool
+// A bound of integers, which may be left out.
+fn integer_limit(s: &[u8]) -> WholeLimit
+    ensures { λ r. ⌜ wholeLimitOf r ≡ bound integer (now (s .entry)) ⌝ }
+{
+    if s.len() == 0 {
+        return WholeLimit::Limit(Bound::Open);
+    }
+    whole_limit(numbers::integers::read_integer(s))
+}
+
+// A bound of billionths, which may be left out.
+fn billionths_limit(s: &[u8]) -> WholeLimit
+    ensures { λ r. ⌜ wholeLimitOf r ≡ bound billionths (now (s .entry)) ⌝ }
+{
+    if s.len() == 0 {
+        return WholeLimit::Limit(Bound::Open);
+    }
+    whole_limit(numbers::billionths::read_billionths(s))
+}
+
+fn whole_ordered(min: Bound, max: Bound) -> bool
     ensures { λ r. ⌜ r ≡ ordered leZ (limit (2 ^ 63) min) (limit (2 ^ 63) max) ⌝ }
 {
     match min {
@@ -106,55 +130,77 @@ fn integer_ordered(min: Bound, max: Bound) -> bool
     }
 }
 
-// The step that `s` writes; 0 where it writes none above 0.
-fn integer_step(s: &[u8]) -> u64
-    ensures { λ r. ⌜ stepRead r ≡ keep positive (integer (now (s .entry))) ⌝ }
+fn whole_within(min: WholeLimit, max: WholeLimit, step: u64) -> WholeRange
+    ensures { λ r. ⌜ wholeRangeOf r ≡ within leZ (wholeLimitOf min) (wholeLimitOf max) (stepRead step) ⌝ }
 {
-    match numbers::integers::read_integer(s) {
-        IntegerRead::Value(n) => numbers::integers::above_zero(n),
-        IntegerRead::Nothing => 0,
-    }
-}
-
-fn integer_within(min: &[u8], max: &[u8], step: u64) -> IntegerRange
-    ensures { λ r. ⌜ integerRangeOf r ≡ within leZ (bound integer (now (min .entry))) (bound integer (now (max .entry))) (stepRead step) ⌝ }
-{
-    let IntegerLimit::Limit(a) = integer_limit(min) else {
-        return IntegerRange::Bad;
+    let WholeLimit::Limit(a) = min else {
+        return WholeRange::Bad;
     };
-    let IntegerLimit::Limit(b) = integer_limit(max) else {
-        return IntegerRange::Bad;
+    let WholeLimit::Limit(b) = max else {
+        return WholeRange::Bad;
     };
-    if integer_ordered(a, b) {
-        IntegerRange::Is {
+    if whole_ordered(a, b) {
+        WholeRange::Is {
             min: a,
             max: b,
             step: step,
         }
     } else {
-        IntegerRange::Bad
+        WholeRange::Bad
     }
 }
 
+// The step that was read; 0 where it is none above 0.
+fn whole_step(step: IntegerRead) -> u64
+    ensures { λ r. ⌜ stepRead r ≡ keep positive (integerRead step) ⌝ }
+{
+    match step {
+        IntegerRead::Value(n) => numbers::integers::above_zero(n),
+        IntegerRead::Nothing => 0,
+    }
+}
+
+// The range with a step.
+fn whole_stepped(min: WholeLimit, max: WholeLimit, step: IntegerRead) -> WholeRange
+    ensures { λ r. ⌜ wholeRangeOf r ≡ withStep leZ (wholeLimitOf min) (wholeLimitOf max) (keep positive (integerRead step)) ⌝ }
+{
+    let n = whole_step(step);
+    if n == 0 {
+        return WholeRange::Bad;
+    }
+    whole_within(min, max, n)
+}
+
+// The whole number that was read, rounded to the step, is within the bounds.
+fn is_whole(read: IntegerRead, min: Bound, max: Bound, step: u64) -> bool
+    ensures { λ r. ⌜ r ≡ wholeInRange (some (wholeRange min max step)) (integerRead read) ⌝ }
+{
+    let IntegerRead::Value(v) = read else {
+        return false;
+    };
+    numbers::steps::in_range(v, min, max, step)
+}
+
 // The range of an integer's format.
-pub fn integer_range(s: &[u8]) -> IntegerRange
-    ensures { λ r. ⌜ integerRangeOf r ≡ integerRange (now (s .entry)) ⌝ }
+pub fn integer_range(s: &[u8]) -> WholeRange
+    ensures { λ r. ⌜ wholeRangeOf r ≡ integerRange (now (s .entry)) ⌝ }
 {
     match cut_fields(s) {
         Cuts::Two(a, b) => {
             let m = a + 1;
-            integer_within(&s[0..a], &s[m..b], 0)
+            let min = integer_limit(&s[0..a]);
+            let max = integer_limit(&s[m..b]);
+            whole_within(min, max, 0)
         }
         Cuts::Three(a, b) => {
             let m = a + 1;
             let n = b + 1;
-            let step = integer_step(&s[n..]);
-            if step == 0 {
-                return IntegerRange::Bad;
-            }
-            integer_within(&s[0..a], &s[m..b], step)
+            let min = integer_limit(&s[0..a]);
+            let max = integer_limit(&s[m..b]);
+            let step = numbers::integers::read_integer(&s[n..]);
+            whole_stepped(min, max, step)
         }
-        Cuts::Other => IntegerRange::Bad,
+        Cuts::Other => WholeRange::Bad,
     }
 }
 
@@ -162,13 +208,11 @@ pub fn integer_range(s: &[u8]) -> IntegerRange
 pub fn is_integer(format: &[u8], s: &[u8]) -> bool
     ensures { λ r. ⌜ r ≡ isInteger (now (format .entry)) (now (s .entry)) ⌝ }
 {
-    let IntegerRange::Is { min, max, step } = integer_range(format) else {
+    let WholeRange::Is { min, max, step } = integer_range(format) else {
         return false;
     };
-    let IntegerRead::Value(v) = numbers::integers::read_integer(s) else {
-        return false;
-    };
-    numbers::steps::in_range(v, min, max, step)
+    let v = numbers::integers::read_integer(s);
+    is_whole(v, min, max, step)
 }
 
 fn float_limit(s: &[u8]) -> FloatLimit
@@ -178,7 +222,7 @@ fn float_limit(s: &[u8]) -> FloatLimit
         return FloatLimit::Limit(DecimalBound::Open);
     }
     match numbers::decimals::read_decimal(s) {
-        DecimalRead::Exact(d) => FloatLimit::Limit(DecimalBound::At(d)),
+        DecimalRead::Exact { value: d, fixed: _ } => FloatLimit::Limit(DecimalBound::At(d)),
         DecimalRead::Nothing => FloatLimit::Bad,
     }
 }
@@ -195,24 +239,9 @@ fn float_ordered(min: DecimalBound, max: DecimalBound) -> bool
     }
 }
 
-// The step that `s` writes; none where it writes none above 0.
-fn float_step(s: &[u8]) -> DecimalBound
-    ensures { λ r. ⌜ decimalLimit r ≡ keep positiveDecimal (decimal (now (s .entry))) ⌝ }
-{
-    match numbers::decimals::read_decimal(s) {
-        DecimalRead::Exact(d) => {
-            let nothing = numbers::decimals::whole_decimal(0);
-            if numbers::compare::decimal_le(d, nothing) {
-                return DecimalBound::Open;
-            }
-            DecimalBound::At(d)
-        }
-        DecimalRead::Nothing => DecimalBound::Open,
-    }
-}
-
-fn float_within(min: &[u8], max: &[u8], step: DecimalBound) -> FloatRange
-    ensures { λ r. ⌜ floatRangeOf r ≡ within leDecimal (bound decimal (now (min .entry))) (bound decimal (now (max .entry))) (decimalLimit step) ⌝ }
+// The range of a format without a step.
+fn float_within(min: &[u8], max: &[u8]) -> FloatRange
+    ensures { λ r. ⌜ floatRangeOf r ≡ floatFields (two (now (min .entry)) (now (max .entry))) ⌝ }
 {
     let FloatLimit::Limit(a) = float_limit(min) else {
         return FloatRange::Bad;
@@ -221,13 +250,30 @@ fn float_within(min: &[u8], max: &[u8], step: DecimalBound) -> FloatRange
         return FloatRange::Bad;
     };
     if float_ordered(a, b) {
-        FloatRange::Is {
-            min: a,
-            max: b,
-            step: step,
-        }
+        FloatRange::Exact { min: a, max: b }
     } else {
         FloatRange::Bad
+    }
+}
+
+// The range of a format with a step.
+fn float_stepped(min: &[u8], max: &[u8], step: &[u8]) -> FloatRange
+    ensures { λ r. ⌜ floatRangeOf r ≡ floatFields (three (now (min .entry)) (now (max .entry)) (now (step .entry))) ⌝ }
+{
+    let a = billionths_limit(min);
+    let b = billionths_limit(max);
+    let n = numbers::billionths::read_billionths(step);
+    match whole_stepped(a, b, n) {
+        WholeRange::Is {
+            min: low,
+            max: high,
+            step: size,
+        } => FloatRange::Stepped {
+            min: low,
+            max: high,
+            step: size,
+        },
+        WholeRange::Bad => FloatRange::Bad,
     }
 }
 
@@ -238,39 +284,46 @@ pub fn float_range(s: &[u8]) -> FloatRange
     match cut_fields(s) {
         Cuts::Two(a, b) => {
             let m = a + 1;
-            float_within(&s[0..a], &s[m..b], DecimalBound::Open)
+            float_within(&s[0..a], &s[m..b])
         }
         Cuts::Three(a, b) => {
             let m = a + 1;
             let n = b + 1;
-            let step = float_step(&s[n..]);
-            match step {
-                DecimalBound::At(d) => float_within(&s[0..a], &s[m..b], DecimalBound::At(d)),
-                DecimalBound::Open => FloatRange::Bad,
-            }
+            float_stepped(&s[0..a], &s[m..b], &s[n..])
         }
         Cuts::Other => FloatRange::Bad,
     }
 }
 
-// A float that a format lets pass, unrounded.
-pub fn is_float(format: &[u8], s: &[u8]) -> bool
-    ensures { λ r. ⌜ r ≡ isFloat (now (format .entry)) (now (s .entry)) ⌝ }
+// A decimal is within the bounds, unrounded.
+fn is_decimal(s: &[u8], min: DecimalBound, max: DecimalBound) -> bool
+    ensures { λ r. ⌜ r ≡ decimalInRange (some (exactRange min max)) (decimal (now (s .entry))) ⌝ }
 {
-    let FloatRange::Is { min, max, step: _ } = float_range(format) else {
-        return false;
-    };
-    let DecimalRead::Exact(v) = numbers::decimals::read_decimal(s) else {
+    let DecimalRead::Exact { value: v, fixed: _ } = numbers::decimals::read_decimal(s) else {
         return false;
     };
     numbers::compare::decimal_in_range(v, min, max)
+}
+
+// A float that a format lets pass: rounded to its step, or as it is where there is none.
+pub fn is_float(format: &[u8], s: &[u8]) -> bool
+    ensures { λ r. ⌜ r ≡ isFloat (now (format .entry)) (now (s .entry)) ⌝ }
+{
+    match float_range(format) {
+        FloatRange::Exact { min, max } => is_decimal(s, min, max),
+        FloatRange::Stepped { min, max, step } => {
+            let v = numbers::billionths::read_billionths(s);
+            is_whole(v, min, max, step)
+        }
+        FloatRange::Bad => false,
+    }
 }
 
 // A float from 0 to `most`.
 pub fn is_up_to(s: &[u8], most: u64) -> bool
     ensures { λ r. ⌜ r ≡ isFloatUpTo most (now (s .entry)) ⌝ }
 {
-    let DecimalRead::Exact(v) = numbers::decimals::read_decimal(s) else {
+    let DecimalRead::Exact { value: v, fixed: _ } = numbers::decimals::read_decimal(s) else {
         return false;
     };
     let low = numbers::decimals::whole_decimal(0);

@@ -502,7 +502,7 @@ mod tests {
     #[test]
     fn every_rule_is_the_first_to_be_broken() {
         let mut told: BTreeMap<&str, usize> = BTreeMap::new();
-        for text in texts(6000) {
+        for text in texts(9000) {
             let fault = first(b"lamp", &text);
             for rule in rules(b"lamp", &text) {
                 let tells = |fault: crate::refusal::Refusal| {
@@ -519,7 +519,7 @@ mod tests {
     #[test]
     fn faults_come_in_every_order() {
         let mut pairs: BTreeMap<(u8, u8), usize> = BTreeMap::new();
-        for text in texts(6000) {
+        for text in texts(9000) {
             let faults = crate::faults::faults(b"lamp", &text);
             if let Some(told) = first(b"lamp", &text) {
                 for later in faults.iter().filter(|fault| fault.place > told.place) {

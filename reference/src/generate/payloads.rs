@@ -1,7 +1,7 @@
 //! Formats and payloads of every datatype, near their limits.
 
 use super::edits::{edit, maybe_edit};
-use super::floats::{beside, bound, crossed, read, spell, step, Number};
+use super::floats::{beside, bound, crossed, read, spell, step, stepped_format, stepped_payload, Number};
 use super::texts::{broken_utf8, utf8};
 use crate::payload::Datatype;
 use crate::random::Random;
@@ -68,6 +68,9 @@ fn integer_format(random: &mut Random) -> String {
 }
 
 fn float_format(random: &mut Random) -> String {
+    if random.once_in(2) {
+        return stepped_format(random);
+    }
     let (low, high, step) = (bound(random), bound(random), step(random));
     let (mut low, mut high) = (spell(random, low), spell(random, high));
     if crossed(&low, &high) && !random.once_in(10) {
@@ -164,6 +167,9 @@ fn integer(random: &mut Random, format: &[u8]) -> String {
 
 fn float(random: &mut Random, format: &[u8]) -> String {
     let text = String::from_utf8_lossy(format).to_string();
+    if let Some(payload) = stepped_payload(random, &text).filter(|_| !random.once_in(6)) {
+        return payload;
+    }
     let anchors: Vec<_> = text.split(':').filter_map(read).collect();
     let anchor = if anchors.is_empty() || random.once_in(6) { bound(random) } else { random.pick(&anchors) };
     let near = beside(random, anchor);

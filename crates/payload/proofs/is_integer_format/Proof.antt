@@ -2,7 +2,7 @@ use mathlib.Core.Path.{sym, ap, _∙_}
 use borrow.Author.Tests.{le-leb, lt-leb}
 use Rattle.times.proofs.Chains.{stop, go}
 use Rattle.ranges.specs.Ranges.{isSome}
-use Rattle.ranges.specs.Answers.{integerRangeOf}
+use Rattle.ranges.specs.Answers.{wholeRangeOf}
 use Rattle.payload.specs.Formats.{isFormat}
 use borrow.Author.Needs.{needs}
 use Rattle.payload.proofs.is_integer_format.Statement.{statement}
@@ -26,11 +26,11 @@ enum-told-2 c = search needs
 
 returns-2 : tie.Need-returns-2
 unfolding isFormat
-returns-2 c = go (le-leb _ 64 (c .before .before .before .if1 .left)) (ap isSome (sym (ap integerRangeOf (c .enum-told .given .1)) ∙ c .before .before .integer-range .ensures))
+returns-2 c = go (le-leb _ 64 (c .before .before .before .if1 .left)) (ap isSome (sym (ap wholeRangeOf (c .enum-told .given .1)) ∙ c .before .before .integer-range .ensures))
 
 returns-3 : tie.Need-returns-3
 unfolding isFormat
-returns-3 c = go (le-leb _ 64 (c .before .before .before .if1 .left)) (ap isSome (sym (ap integerRangeOf (c .enum-told2 .given .1)) ∙ c .before .before .integer-range .ensures))
+returns-3 c = go (le-leb _ 64 (c .before .before .before .if1 .left)) (ap isSome (sym (ap wholeRangeOf (c .enum-told2 .given .1)) ∙ c .before .before .integer-range .ensures))
 
 pub is-integer-format-spec : {M : Type 1} → statement M
 is-integer-format-spec =

@@ -21,10 +21,10 @@ enum-told : tie.Need-enum-told
 enum-told c = search needs
 
 returns-2 : tie.Need-returns-2
-returns-2 c = bound-read decimal (c .before .before .before .before .before .before .args .s .now) (c .before .before .before .before .if1 .left) (sym (ap decimalRead (c .before .d .given .1)) ∙ c .before .before .before .read-decimal .ensures)
+returns-2 c = bound-read decimal (c .before .before .before .before .before .before .args .s .now) (c .before .before .before .before .if1 .left) (sym (ap decimalRead (c .before .d .given .1)) ∙ c .before .before .before .read-decimal .ensures .0)
 
 returns-3 : tie.Need-returns-3
-returns-3 c = bound-read decimal (c .before .before .before .before .before .args .s .now) (c .before .before .before .if1 .left) (sym (ap decimalRead (c .enum-told .given .1)) ∙ c .before .before .read-decimal .ensures)
+returns-3 c = bound-read decimal (c .before .before .before .before .before .args .s .now) (c .before .before .before .if1 .left) (sym (ap decimalRead (c .enum-told .given .1)) ∙ c .before .before .read-decimal .ensures .0)
 
 pub float-limit-spec : {M : Type 1} → statement M
 float-limit-spec =

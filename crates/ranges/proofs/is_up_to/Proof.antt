@@ -20,7 +20,7 @@ enum-told : tie.Need-enum-told
 enum-told c = search needs
 
 returns : tie.Need-returns
-returns c = upTo-none (c .before .before .before .before .args .most) (c .before .before .before .before .args .s .now) (sym (ap decimalRead (c .enum-told .given .1)) ∙ c .before .before .read-decimal .ensures)
+returns c = upTo-none (c .before .before .before .before .args .most) (c .before .before .before .before .args .s .now) (sym (ap decimalRead (c .enum-told .given .1)) ∙ c .before .before .read-decimal .ensures .0)
 
 whole-decimal-requires : tie.Need-whole-decimal-requires
 whole-decimal-requires c κs = search needs
@@ -32,7 +32,7 @@ decimal-in-range-requires : tie.Need-decimal-in-range-requires
 decimal-in-range-requires c κs = search needs
 
 returns-2 : tie.Need-returns-2
-returns-2 c = upTo-is (c .before .before .before .before .before .before .before .before .args .most) (c .before .before .before .before .before .before .before .before .args .s .now) _ _ (sym (ap decimalRead (c .before .before .before .before .v .given .1)) ∙ c .before .before .before .before .before .before .read-decimal .ensures) (c .decimal-in-range .ensures) (c .before .before .whole-decimal .ensures) (c .before .whole-decimal2 .ensures)
+returns-2 c = upTo-is (c .before .before .before .before .before .before .before .before .args .most) (c .before .before .before .before .before .before .before .before .args .s .now) _ _ (sym (ap decimalRead (c .before .before .before .before .v .given .1)) ∙ c .before .before .before .before .before .before .read-decimal .ensures .0) (c .decimal-in-range .ensures) (c .before .before .whole-decimal .ensures) (c .before .whole-decimal2 .ensures)
 
 pub is-up-to-spec : {M : Type 1} → statement M
 is-up-to-spec =

@@ -1,4 +1,4 @@
-use Rattle.numbers.proofs.FloatReading.{below-zero, not-below}
+use Rattle.numbers.proofs.FixedReading.{below-zero, not-below, fixed-below, fixed-plain}
 use Rattle.numbers.proofs.Endings.{at-sign}
 use borrow.Author.Needs.{needs}
 use Rattle.numbers.proofs.decimals.read_decimal.Statement.{statement}
@@ -14,10 +14,10 @@ read-whole-requires-2 : tie.Need-read-whole-requires-2
 read-whole-requires-2 c κs = search needs
 
 returns : tie.Need-returns
-returns c = search (needs, below-zero)
+returns c = search (needs, below-zero, fixed-below)
 
 returns-2 : tie.Need-returns-2
-returns-2 c = search (needs, not-below)
+returns-2 c = search (needs, not-below, fixed-plain)
 
 pub read-decimal-spec : {M : Type 1} → statement M
 read-decimal-spec =

@@ -2,6 +2,10 @@ use Rattle.numbers.proofs.Endings.{more, no-digit, too-far, down, up, n
 use borrow.Author.Needs.{needs}
 use Rattle.numbers.proofs.decimals.read_power.Statement.{statement}
 use Rattle.numbers.proofs.decimals.read_power.Tie as tie
+use Rattle.numbers.proofs.decimals.read_power.Reads as reads
+use Rattle.numbers.proofs.decimals.read_power.Lts as lts
+use Rattle.numbers.proofs.decimals.read_run.Reads as read-run-reads
+use Rattle.numbers.proofs.decimals.with_power.Reads as with-power-reads
 
 read-run-requires : tie.Need-read-run-requires
 read-run-requires c κs = search needs
@@ -18,17 +22,23 @@ returns-2 c = search (needs, no-digit)
 returns-3 : tie.Need-returns-3
 returns-3 c = search (needs, too-far)
 
-sub-t15 : tie.Need-sub-t15
-sub-t15 c = search needs
+sub-with-power : tie.Need-sub-with-power
+sub-with-power c = search needs
 
-sub-t16 : tie.Need-sub-t16
-sub-t16 c = search needs
+sub-with-power-2 : tie.Need-sub-with-power-2
+sub-with-power-2 c = search needs
 
-sub-t18 : tie.Need-sub-t18
-sub-t18 c = search needs
+with-power-requires : tie.Need-with-power-requires
+with-power-requires c κs = search needs
 
-add-t19 : tie.Need-add-t19
-add-t19 c = search needs
+sub-with-power-3 : tie.Need-sub-with-power-3
+sub-with-power-3 c = search needs
+
+add-with-power : tie.Need-add-with-power
+add-with-power c = search needs
+
+with-power-requires-2 : tie.Need-with-power-requires-2
+with-power-requires-2 c κs = search needs
 
 enum-told : tie.Need-enum-told
 enum-told c = search needs
@@ -51,10 +61,12 @@ read-power-spec =
     returns
     returns-2
     returns-3
-    sub-t15
-    sub-t16
-    sub-t18
-    add-t19
+    sub-with-power
+    sub-with-power-2
+    with-power-requires
+    sub-with-power-3
+    add-with-power
+    with-power-requires-2
     enum-told
     returns-4
     returns-5

@@ -5,10 +5,10 @@ use Rattle.numbers.specs.Step.{limit}
 use Rattle.numbers.proofs.Theorems.{stands-order}
 use Rattle.ranges.proofs.Reading.{both-bounds, no-max, no-min}
 use borrow.Author.Needs.{needs}
-use Rattle.ranges.proofs.integer_ordered.Statement.{statement}
-use Rattle.ranges.proofs.integer_ordered.Tie as tie
-use Rattle.ranges.proofs.integer_ordered.Reads as reads
-use Rattle.ranges.proofs.integer_ordered.Lts as lts
+use Rattle.ranges.proofs.whole_ordered.Statement.{statement}
+use Rattle.ranges.proofs.whole_ordered.Tie as tie
+use Rattle.ranges.proofs.whole_ordered.Reads as reads
+use Rattle.ranges.proofs.whole_ordered.Lts as lts
 
 enum-known-min : tie.Need-enum-known-min
 enum-known-min c = search needs
@@ -31,7 +31,7 @@ returns-2 c = no-max leZ (ap (limit (2 ^ 63)) (c .before .before .before .min .g
 returns-3 : tie.Need-returns-3
 returns-3 c = no-min leZ (limit (2 ^ 63) (c .before .before .args .max)) (ap (limit (2 ^ 63)) (c .enum-told2 .given .1))
 
-pub integer-ordered-spec : {M : Type 1} → statement M
-integer-ordered-spec =
+pub whole-ordered-spec : {M : Type 1} → statement M
+whole-ordered-spec =
     tie.close
     (tie.spec enum-known-min enum-known-max enum-told enum-told-2 returns returns-2 returns-3)

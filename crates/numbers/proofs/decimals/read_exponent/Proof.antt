@@ -1,13 +1,12 @@
-use Rattle.numbers.proofs.Endings.{end, within, minus, plus, junk}
+use Rattle.numbers.proofs.Endings.{within, minus, plus, junk}
 use borrow.Author.Needs.{needs}
-use Rattle.numbers.proofs.decimals.read_ending.Statement.{statement}
-use Rattle.numbers.proofs.decimals.read_ending.Tie as tie
-
-sub-t8 : tie.Need-sub-t8
-sub-t8 c = search needs
-
-returns : tie.Need-returns
-returns c = search (needs, end)
+use Rattle.numbers.proofs.decimals.read_exponent.Statement.{statement}
+use Rattle.numbers.proofs.decimals.read_exponent.Tie as tie
+use Rattle.numbers.proofs.decimals.read_exponent.Reads as reads
+use Rattle.numbers.proofs.decimals.read_exponent.Lts as lts
+use Rattle.numbers.proofs.decimals.read_power.Reads as read-power-reads
+use Rattle.numbers.proofs.digits.has_minus.Reads as has-minus-reads
+use Rattle.numbers.proofs.digits.is_e.Reads as is-e-reads
 
 shared-slice-read-is-e : tie.Need-shared-slice-read-is-e
 shared-slice-read-is-e c = search needs
@@ -33,21 +32,19 @@ add-read-power-2 c = search needs
 read-power-requires-2 : tie.Need-read-power-requires-2
 read-power-requires-2 c κs = search needs
 
+returns : tie.Need-returns
+returns c = search (needs, minus)
+
 returns-2 : tie.Need-returns-2
-returns-2 c = search (needs, minus)
+returns-2 c = search (needs, plus)
 
 returns-3 : tie.Need-returns-3
-returns-3 c = search (needs, plus)
+returns-3 c = search (needs, junk)
 
-returns-4 : tie.Need-returns-4
-returns-4 c = search (needs, junk)
-
-pub read-ending-spec : {M : Type 1} → statement M
-read-ending-spec =
+pub read-exponent-spec : {M : Type 1} → statement M
+read-exponent-spec =
     tie.close
     (tie.spec
-    sub-t8
-    returns
     shared-slice-read-is-e
     is-e-requires
     add-has-minus
@@ -56,6 +53,6 @@ read-ending-spec =
     read-power-requires
     add-read-power-2
     read-power-requires-2
+    returns
     returns-2
-    returns-3
-    returns-4)
+    returns-3)
