@@ -359,6 +359,9 @@ HOMIE5_API uint32_t homie5_open(uint8_t *mem, size_t mem_len, const uint8_t *dom
  * an empty payload 12, else 14, 13; description 12, and of a payload that is not empty those of
  * homie5_description_judge, with their places in the payload; value 12, 16, 11, 14; set 12, 16, 17, 14; target 12, 16,
  * 14; alert, log, other 12.
+ * A description that is not empty keeps the lanes that it can: of a property that the device had before and has now a
+ * value, where it is retained before and after, and a target, with their times, if the payload is valid for what is
+ * declared now. All other lanes are empty, asked among them. An empty description clears everything.
  */
 HOMIE5_API uint32_t homie5_message(uint8_t *mem, size_t mem_len, uint64_t time, const uint8_t *topic, size_t topic_len,
                                    uint8_t retained, const uint8_t *payload, size_t payload_len);

@@ -10,7 +10,7 @@ use reference::text::is_message_text;
 use reference::topic::{self, Form, Topic};
 use reference::trace::Event;
 use std::collections::VecDeque;
-use std::mem::{replace, take};
+use std::mem::replace;
 
 type Lanes = [Option<Lane>; 3];
 
@@ -31,6 +31,18 @@ impl Device {
     fn find_property(&self, node: &[u8], id: &[u8]) -> Result<usize, Refusal> {
         let same = |property: &Property| property.node == node && property.id == id;
         self.properties().iter().position(same).ok_or(NO_PROPERTY)
+    }
+
+    /// What a property of a new description keeps of the lanes: a value if it was and is retained, and a target.
+    fn kept_lanes(&self, new: &Property) -> Lanes {
+        let Ok(at) = self.find_property(&new.node, &new.id) else {
+            return Lanes::default();
+        };
+        let retained = self.properties()[at].retained && new.retained;
+        let [value, target, _] = &self.lanes[at];
+        let valid = |lane: &&Lane| is_payload(new.datatype, &new.format, &lane.payload);
+        let value = value.as_ref().filter(|_| retained);
+        [value.filter(valid).cloned(), target.as_ref().filter(valid).cloned(), None]
     }
 
     pub fn filled(&self) -> usize {
@@ -137,9 +149,9 @@ impl Table {
             _ => Some(describe::read(id, payload)?),
         };
         let device = &mut self.devices[rank];
-        let old = replace(&mut device.description, new);
-        let lanes = take(&mut device.lanes);
-        device.lanes.resize(device.properties().len(), Lanes::default());
+        let properties = new.as_ref().map_or(&[][..], |description| &description.properties);
+        let lanes = properties.iter().map(|property| device.kept_lanes(property)).collect();
+        let (old, lanes) = (replace(&mut device.description, new), replace(&mut device.lanes, lanes));
         Ok(Replaced::Description(rank, old, lanes))
     }
 

@@ -69,9 +69,29 @@ impl Device {
         self.description.as_ref().map_or(&[], |description| &description.properties)
     }
 
-    fn describe(&mut self, description: Option<Description>) {
-        self.description = description;
-        self.lanes = vec![Lanes::default(); self.properties().len()];
+    /// A new description, with the lanes that are kept.
+    fn describe(&mut self, description: Description) {
+        self.lanes = description.properties.iter().map(|property| self.kept_lanes(property)).collect();
+        self.description = Some(description);
+    }
+
+    /// No description, and no lanes.
+    fn forget(&mut self) {
+        self.lanes = Vec::new();
+        self.description = None;
+    }
+
+    /// The lanes of a property in a new description: what is valid under its
+    /// datatype and format, but no value unless it was and is retained, and
+    /// nothing asked.
+    fn kept_lanes(&self, new: &Property) -> Lanes {
+        let Ok(at) = self.find_property(&new.node, &new.id) else {
+            return Lanes::default();
+        };
+        let is_valid = |lane: &&Lane| is_payload(new.datatype, &new.format, &lane.payload);
+        let kept = |kind: LaneKind| self.lane(at, kind).filter(is_valid).cloned();
+        let retained = self.properties()[at].retained && new.retained;
+        [kept(LaneKind::Value).filter(|_| retained), kept(LaneKind::Target), None]
     }
 
     fn find_property(&self, node: &[u8], id: &[u8]) -> Result<usize, Refusal> {
@@ -154,10 +174,9 @@ impl Table {
     fn take_description(&mut self, id: &[u8], payload: &[u8]) -> Result<(), Refusal> {
         let device = self.device_mut(id)?;
         if payload.is_empty() {
-            device.describe(None);
+            device.forget();
         } else {
-            let description = description::read(id, payload)?;
-            device.describe(Some(description));
+            device.describe(description::read(id, payload)?);
         }
         Ok(())
     }
@@ -416,12 +435,165 @@ mod tests {
         assert_eq!(send(&mut book, 2, "lamp/$description", true, "{"), 21);
         assert_eq!(send(&mut book, 3, "lamp/light/on", true, "true"), 0);
         assert_eq!(book.table().filled(b"lamp"), Ok(1));
-        assert_eq!(send(&mut book, 4, "lamp/$description", true, LAMP), 0);
-        assert_eq!(book.table().filled(b"lamp"), Ok(0));
         assert_eq!(send(&mut book, 5, "lamp/$description", true, ""), 0);
+        assert_eq!(book.table().filled(b"lamp"), Ok(0));
         assert_eq!(book.table().property(b"lamp", 0), Err(NUMBER));
         assert!(book.table().device(b"lamp").unwrap().description.is_none());
         assert_eq!(send(&mut book, 6, "lamp/$description", true, ""), 0);
+    }
+
+    // K2
+
+    /// A description with properties of the node `light`, each by its fields.
+    fn described(version: i64, properties: &[(&str, &str)]) -> String {
+        let list: Vec<String> = properties.iter().map(|(id, fields)| format!(r#""{id}":{{{fields}}}"#)).collect();
+        let list = list.join(",");
+        format!(r#"{{"homie":"5.0","version":{version},"nodes":{{"light":{{"properties":{{{list}}}}}}}}}"#)
+    }
+
+    /// The lamp with the property `p` of these fields, its lanes filled at 3, 4
+    /// and 5 with a payload each, then at 6 with `p` of other fields.
+    fn redescribed(before: &str, payloads: [&str; 3], after: &str) -> [Option<Lane>; 3] {
+        let mut book = book(2, 3);
+        assert_eq!(send(&mut book, 1, "lamp/$state", true, "init"), 0);
+        assert_eq!(send(&mut book, 2, "lamp/$description", true, &described(1, &[("p", before)])), 0);
+        let retained = !before.contains(r#""retained":false"#);
+        for (time, (rest, retained), payload) in [
+            (3, ("lamp/light/p", retained), payloads[0]),
+            (4, ("lamp/light/p/$target", true), payloads[1]),
+            (5, ("lamp/light/p/set", false), payloads[2]),
+        ] {
+            if !payload.is_empty() {
+                assert_eq!(send(&mut book, time, rest, retained, payload), 0, "{payload}");
+            }
+        }
+        assert_eq!(send(&mut book, 6, "lamp/$description", true, &described(2, &[("p", after)])), 0);
+        LaneKind::ALL.map(|kind| lane(&book, "p", kind))
+    }
+
+    fn held(time: u64, payload: &str) -> Option<Lane> {
+        Some(Lane { time, payload: payload.as_bytes().to_vec() })
+    }
+
+    #[test]
+    fn a_new_description_keeps_value_and_target_with_their_times() {
+        let fields = r#""datatype":"integer","settable":true"#;
+        assert_eq!(redescribed(fields, ["7", "8", "9"], fields), [held(3, "7"), held(4, "8"), None]);
+        assert_eq!(redescribed(fields, ["7", "", ""], fields), [held(3, "7"), None, None]);
+        assert_eq!(redescribed(fields, ["", "8", "9"], fields), [None, held(4, "8"), None]);
+    }
+
+    #[test]
+    fn a_lane_is_kept_where_the_payload_is_valid_under_the_new_datatype_and_format() {
+        let values = |before: &str, payload: &str, after: &str| {
+            let [value, target, asked] = redescribed(before, [payload, payload, ""], after);
+            assert_eq!(value.is_some(), target.is_some());
+            assert_eq!(asked, None);
+            value.is_some()
+        };
+        let integer = r#""datatype":"integer""#;
+        for (payload, after, kept) in [
+            ("5", r#""datatype":"float""#, true),
+            ("5", r#""datatype":"string""#, true),
+            ("5", r#""datatype":"enum","format":"4,5""#, true),
+            ("5", r#""datatype":"enum","format":"4,05""#, false),
+            ("5", r#""datatype":"boolean""#, false),
+            ("5", r#""datatype":"json""#, false),
+            ("5", r#""datatype":"integer","format":"5:""#, true),
+            ("5", r#""datatype":"integer","format":"6:""#, false),
+            ("5", r#""datatype":"integer","format":"6:10:2""#, true),
+            ("4", r#""datatype":"integer","format":"6:10:2""#, false),
+            ("0005", r#""datatype":"integer","format":":5""#, true),
+        ] {
+            assert_eq!(values(integer, payload, after), kept, "{payload} {after}");
+        }
+        let string = r#""datatype":"string""#;
+        for (payload, after, kept) in [
+            ("\0", string, true),
+            ("\0", r#""datatype":"enum","format":"\u0000""#, false),
+            ("rgb,1,2,3", r#""datatype":"color","format":"rgb""#, true),
+            ("rgb,1,2,3", r#""datatype":"color","format":"hsv""#, false),
+            ("true", r#""datatype":"boolean","format":"off,on""#, true),
+            ("on", r#""datatype":"boolean","format":"off,on""#, false),
+            ("[]", r#""datatype":"json""#, true),
+            ("PT5M", r#""datatype":"duration""#, true),
+            ("2024-02-29T00:00:00", r#""datatype":"datetime""#, true),
+            ("1e2", r#""datatype":"float","format":"100:100""#, true),
+            ("1e2", r#""datatype":"integer""#, false),
+            // K7: rounded, and of the shape that a step asks for.
+            ("30.2", r#""datatype":"float","format":"5:30""#, false),
+            ("30.2", r#""datatype":"float","format":"5:30:0.5""#, true),
+            ("30.25", r#""datatype":"float","format":"5:30:0.5""#, false),
+            ("1e2", r#""datatype":"float","format":"::0.5""#, false),
+            ("100", r#""datatype":"float","format":"::0.5""#, true),
+        ] {
+            assert_eq!(values(string, payload, after), kept, "{payload} {after}");
+        }
+    }
+
+    #[test]
+    fn a_value_is_kept_only_if_retained_before_and_after_and_a_target_whatever_the_flags() {
+        let fields = |retained: bool| format!(r#""datatype":"string","retained":{retained}"#);
+        for (before, after) in [(true, true), (true, false), (false, true), (false, false)] {
+            let lanes = redescribed(&fields(before), ["a", "b", ""], &fields(after));
+            assert_eq!(lanes, [held(3, "a").filter(|_| before && after), held(4, "b"), None], "{before} {after}");
+        }
+    }
+
+    #[test]
+    fn a_property_that_is_not_in_both_keeps_nothing() {
+        let mut book = lamp();
+        assert_eq!(send(&mut book, 3, "lamp/light/on", true, "true"), 0);
+        assert_eq!(send(&mut book, 3, "lamp/light/level", true, "5"), 0);
+        let gone = described(8, &[("level", r#""datatype":"integer""#), ("new", r#""datatype":"boolean""#)]);
+        assert_eq!(send(&mut book, 4, "lamp/$description", true, &gone), 0);
+        assert_eq!(book.table().filled(b"lamp"), Ok(1));
+        assert_eq!(lane(&book, "level", LaneKind::Value), held(3, "5"));
+        assert_eq!(lane(&book, "new", LaneKind::Value), None);
+        // It comes back, and finds nothing.
+        assert_eq!(send(&mut book, 5, "lamp/$description", true, LAMP), 0);
+        assert_eq!(lane(&book, "on", LaneKind::Value), None);
+        assert_eq!(lane(&book, "level", LaneKind::Value), held(3, "5"));
+        // The same ID in another node is another property.
+        assert_eq!(send(&mut book, 6, "lamp/$description", true, &gone.replace("light", "dark")), 0);
+        assert_eq!(book.table().filled(b"lamp"), Ok(0));
+    }
+
+    #[test]
+    fn names_are_found_again_however_they_are_spelled() {
+        let mut book = lamp();
+        assert_eq!(send(&mut book, 3, "lamp/light/on", true, "true"), 0);
+        let spelled = LAMP.replace("light", r"l\u0069ght").replace(r#""on""#, r#""\u006fn""#);
+        assert_eq!(send(&mut book, 4, "lamp/$description", true, &spelled), 0);
+        assert_eq!(lane(&book, "on", LaneKind::Value), held(3, "true"));
+    }
+
+    #[test]
+    fn equal_content_empties_what_was_asked() {
+        let mut book = lamp();
+        assert_eq!(send(&mut book, 3, "lamp/light/on", true, "true"), 0);
+        assert_eq!(send(&mut book, 3, "lamp/light/on/set", false, "false"), 0);
+        assert_eq!(send(&mut book, 4, "lamp/$description", true, LAMP), 0);
+        assert_eq!(LaneKind::ALL.map(|kind| lane(&book, "on", kind)), [held(3, "true"), None, None]);
+        assert_eq!(book.step_back(), Ok(()));
+        assert_eq!(LaneKind::ALL.map(|kind| lane(&book, "on", kind)), [held(3, "true"), None, held(3, "false")]);
+    }
+
+    #[test]
+    fn an_empty_description_clears_everything_and_a_refused_one_nothing() {
+        let mut book = lamp();
+        assert_eq!(send(&mut book, 3, "lamp/light/on", true, "true"), 0);
+        assert_eq!(send(&mut book, 3, "lamp/light/on/$target", true, "true"), 0);
+        assert_eq!(send(&mut book, 3, "lamp/light/on/set", false, "false"), 0);
+        assert_eq!(send(&mut book, 4, "lamp/$description", true, "{}"), 23);
+        let all = [held(3, "true"), held(3, "true"), held(3, "false")];
+        assert_eq!(LaneKind::ALL.map(|kind| lane(&book, "on", kind)), all);
+        assert_eq!(send(&mut book, 4, "lamp/$description", true, ""), 0);
+        assert_eq!(send(&mut book, 4, "lamp/$description", true, LAMP), 0);
+        assert_eq!(LaneKind::ALL.map(|kind| lane(&book, "on", kind)), [None, None, None]);
+        assert_eq!(book.step_back(), Ok(()));
+        assert_eq!(book.step_back(), Ok(()));
+        assert_eq!(LaneKind::ALL.map(|kind| lane(&book, "on", kind)), all);
     }
 
     #[test]

@@ -176,6 +176,9 @@ impl Table {
 
     /// Feeds a message. Refuses with `Earlier` to `NotSettable`, and a description as
     /// [`judge`](crate::description::judge) does: the place is one of its payload.
+    ///
+    /// A description that is not empty keeps the values and targets of properties that the device had before, where
+    /// they are valid for what is declared now, a value where it is retained before and after. What was asked is gone.
     pub fn message(&mut self, event: &Event) -> Result<(), Refusal> {
         call::message(&mut self.memory, event)
     }

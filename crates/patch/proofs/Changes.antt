@@ -6,7 +6,8 @@ use mathlib.Core.Path.{_≡_, refl, ap, ap₂, _∙_, subst}
 use mathlib.Core.List.{List, _∷_}
 use mathlib.Core.Bool.{false}
 use mathlib.Core.Option.{Option, none}
-use lib.ListN.{length, getD}
+use lib.ListN.{length, getD, take}
+use lib.Seq.{take-all}
 use Rattle.little_endian.specs.Bytes.{u64, put}
 use Rattle.memory.specs.Bytes.{tab}
 use Rattle.memory.specs.Layout.{roomSize}
@@ -22,7 +23,7 @@ use Rattle.text.specs.Ids.{idMost}
 use Rattle.device.specs.Layout.{idAt, stateCodeAt, timeAt, describedAt, rootAt, countAt, propertiesMost, recordAt, recordSize, lanesAt, laneSize, laneAt}
 use Rattle.device.specs.Decode.{isSet, textAt, heldAt, declaredAt, recordOf, countIn, propertiesIn, descriptionIn, deviceOf}
 use Rattle.device.specs.Meaning.{laneNumber}
-use Rattle.patch.specs.Makes.{Makes, LaneMakes}
+use Rattle.patch.specs.Makes.{Makes, LaneMakes, LaneSet}
 use Rattle.patch.proofs.Frame.{put-new, put-before, put-after, within, front, byte-alike, set-alike, num-alike, text-alike, held-alike, declared-alike, record-alike, description-is, description-alike, device-is}
 
 -- ---- the state and its time
@@ -153,3 +154,18 @@ lane-at-makes bs i kind l h = record {
 
 pub lane-makes : (bs : List ℕ) (h : Option Held) → length bs ≡ laneSize → heldAt bs 0 ≡ h → LaneMakes bs h
 lane-makes bs h l e = subst (LaneMakes bs) e (record { makes = λ i kind q. lane-at-makes bs i kind l q })
+
+-- ---- a lane of the room itself
+
+module _ (m : List ℕ) (i at : ℕ) (kind : LaneKind) (h : Option Held) (bytes : List ℕ) (place : at ≡ laneAt i (laneNumber kind)) (size : length bytes ≡ laneSize) (made : LaneMakes bytes h) where
+  pub lane-outside : length m < at + laneSize → LaneSet m i kind h m
+  lane-outside k = record { bytes = bytes; size = size; makes = made; written = λ l. absurd (omega arith); kept = λ l. refl }
+
+  pub lane-inside-set : (m′ : List ℕ) → at + laneSize ≤ length m → m′ ≡ put m at (take laneSize bytes) → LaneSet m i kind h m′
+  lane-inside-set m′ k e = record {
+    bytes = bytes;
+    size = size;
+    makes = made;
+    written = λ l. e ∙ ap₂ (put m) place (take-all laneSize bytes (omega arith));
+    kept = λ l. absurd (omega arith);
+  }

@@ -1,5 +1,5 @@
 -- What bytes, put over those of a room, make of the device that the room means.
-use Prim.Native.Nat.{ℕ, _<_}
+use Prim.Native.Nat.{ℕ, _+_, _≤_, _<_}
 use mathlib.Core.Path.{_≡_}
 use mathlib.Core.List.{List}
 use mathlib.Core.Bool.{true, false}
@@ -11,7 +11,7 @@ use Rattle.rules.specs.declared.LaneKind.{LaneKind}
 use Rattle.rules.specs.Table.{Held, Device, withLane}
 use Rattle.rules.specs.Find.{changeAt, inDevice}
 use Rattle.rules.specs.Messages.{isEmpty}
-use Rattle.device.specs.Layout.{propertiesMost, laneAt}
+use Rattle.device.specs.Layout.{propertiesMost, laneAt, laneSize}
 use Rattle.device.specs.Decode.{deviceOf}
 use Rattle.device.specs.Meaning.{laneNumber}
 
@@ -26,3 +26,11 @@ heldSince time payload = elim (isEmpty payload) [ true ↦ none | false ↦ some
 -- these bytes, put over a lane of any kind of any property, make it hold this
 pub record LaneMakes (bytes : List ℕ) (h : Option Held) : Type 0 where
   pub makes : (i : ℕ) (kind : LaneKind) → i < propertiesMost → Makes (laneAt i (laneNumber kind)) bytes (inDevice (changeAt i (withLane kind h)))
+
+-- a lane of a room written over, where it lies inside; it makes the lane hold this
+pub record LaneSet (m : List ℕ) (i : ℕ) (kind : LaneKind) (h : Option Held) (m′ : List ℕ) : Type 0 where
+  pub bytes : List ℕ
+  pub size : length bytes ≡ laneSize
+  pub makes : LaneMakes bytes h
+  pub written : laneAt i (laneNumber kind) + laneSize ≤ length m → m′ ≡ put m (laneAt i (laneNumber kind)) bytes
+  pub kept : length m < laneAt i (laneNumber kind) + laneSize → m′ ≡ m

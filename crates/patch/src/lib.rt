@@ -9,7 +9,7 @@ ghost use Rattle.rules.specs.Messages.{withState, newDevice, withDescription};
 ghost use Rattle.text.specs.Ids.{idMost};
 ghost use Rattle.device.specs.Layout.{stateCodeAt, describedAt, idAt, laneAt, payloadMost};
 ghost use Rattle.device.specs.Meaning.{laneNumber};
-ghost use Rattle.patch.specs.Makes.{Makes, LaneMakes, heldSince};
+ghost use Rattle.patch.specs.Makes.{Makes, LaneMakes, LaneSet, heldSince};
 ghost use Rattle.patch.specs.Parts.{textBytes};
 use device::ID;
 use device::LANE;
@@ -103,4 +103,16 @@ pub fn lane_offset(i: u8, kind: LaneKind) -> usize
     ensures { λ r. ⌜ r ≡ laneAt i (laneNumber kind) ⌝ }
 {
     RECORDS + RECORD * (i as usize) + LANES + LANE * lane_number(kind)
+}
+
+// A lane of the i-th property written into the room itself; where it does not lie inside, nothing is.
+pub fn set_lane(room: &mut [u8], i: u8, kind: LaneKind, time: u64, payload: &[u8])
+    ensures { λ _. ⌜ LaneSet (now (room .entry)) i kind (heldSince time (take payloadMost (now (payload .entry)))) (now (room .exit)) ⌝ }
+{
+    let bytes = lane(time, payload);
+    let at = lane_offset(i, kind);
+    if room.len() < at + LANE {
+        return;
+    }
+    write(room, at, &bytes, LANE);
 }

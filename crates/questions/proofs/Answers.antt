@@ -1,18 +1,18 @@
 -- What a question answers, from what is read in the room of a device.
-use Prim.Native.Nat.{ℕ, zero, suc, _≤_, _<_}
+use Prim.Native.Nat.{ℕ, _≤_, _<_}
 use native.Mathlib.Omega.{arith}
-use native.Mathlib.Nat.{not-suc-le-zero, le-of-suc-le-suc}
-use mathlib.Core.Path.{_≡_, refl, sym, ap, _∙_, subst}
-use mathlib.Core.List.{List, [], _∷_}
+use mathlib.Core.Path.{_≡_, sym, ap, _∙_, subst}
+use mathlib.Core.List.{List, []}
 use mathlib.Core.Option.{Option}
 use lib.IntN.{ℤ}
-use lib.ListN.{length, getD}
+use lib.ListN.{length}
 use Rattle.answer.specs.Answer.{Answer, refused, gives, andThen, only}
 use Rattle.memory.specs.Bytes.{span}
 use Rattle.memory.specs.Layout.{roomSize, roomAt, slot}
 use Rattle.book.specs.Book.{question}
 use Rattle.rules.specs.Table.{Device}
 use Rattle.rules.specs.Find.{find}
+use Rattle.rules.proofs.Ranks.{at-some, at-none}
 use Rattle.rules.specs.Questions.{Question, askNth, Value, anId, aVersion, aTime, reply, at}
 use Rattle.device.specs.Decode.{deviceOf}
 use Rattle.device.specs.Meaning.{versionIs}
@@ -57,18 +57,6 @@ pub sound-asked : (q : Question) (m : List ℕ) (a : Answer Value) → Sound m �
 sound-asked q m a s e = asked q m a (is-sound m (reply (means m .now) q) a s e)
 
 -- ---- the i-th of a list
-
-pub at-some : {A : Type 0} (i : ℕ) (l : List A) (z : A) → i < length l → at i l ≡ gives (getD l i z)
-unfolding at
-at-some i [] z h = absurd (not-suc-le-zero h)
-at-some zero (x ∷ l) z h = refl
-at-some (suc i) (x ∷ l) z h = at-some i l z (le-of-suc-le-suc h)
-
-pub at-none : {A : Type 0} (i : ℕ) (l : List A) → length l ≤ i → at i l ≡ refused (only 3)
-unfolding at
-at-none i [] h = refl
-at-none zero (x ∷ l) h = absurd (not-suc-le-zero h)
-at-none (suc i) (x ∷ l) h = at-none i l (le-of-suc-le-suc h)
 
 pub nth-none : (m : List ℕ) (i n : ℕ) → Sound m → n ≡ length (means m .now .devices) → n ≤ i → Did (question (askNth i)) m m (refused (only 3))
 unfolding reply

@@ -33,7 +33,7 @@ use Rattle.questions.specs.declared.Held.the-variants as held
 use Rattle.questions.specs.Meaning.{saysId, saysRelative, saysProperty, saysHeld}
 use Rattle.questions.specs.Parts.{Shown}
 use Rattle.questions.proofs.Asking.{there, not-there}
-use Rattle.questions.proofs.Answers.{at-some, at-none}
+use Rattle.rules.proofs.Ranks.{at-some, at-none}
 use Rattle.questions.proofs.Rooms.{inside-at, in-room, moved-on}
 
 -- ---- a device's ID, root and parent

@@ -69,7 +69,7 @@ module _ (id other : List ℕ) (apart : id ≡ other → ⊥) where
 
     description-others : Given Stays (obeyDescription id x ds)
     unfolding obeyDescription
-    description-others = given-then Stays (find id ds) _ (λ v e. given-then Stays (describedBy id (x .payload)) _ (λ y g. change-others (withDescription y) (λ u. refl) ds))
+    description-others = given-then Stays (find id ds) _ (λ v e. given-then Stays (describedBy id (v .description) (x .payload)) _ (λ y g. change-others (withDescription y) (λ u. refl) ds))
 
     lane-others : (k : LaneKind) (node property : List ℕ) → Given Stays (obeyLane k id node property x ds)
     unfolding obeyLane fill inDevice
@@ -298,7 +298,7 @@ module _ (d : ℕ) (x : Message) (ds : List Device) (id : List ℕ) where
           (λ q. false≢true (subst (Given (λ (u : Device). false ≡ true)) (sym i ∙ (ap (λ (l : List ℕ). find l ds) q ∙ f)) refl)) (newDevice id s (x .time)) refl ds))
 
   -- "description: replaces what the device has"
-  pub description-changed : (v : Device) (y : Option Description) → find id ds ≡ gives v → describedBy id (x .payload) ≡ gives y → Given (λ (es : List Device). find id es ≡ gives (withDescription y v)) (obeyDescription id x ds)
+  pub description-changed : (v : Device) (y : Option Description) → find id ds ≡ gives v → describedBy id (v .description) (x .payload) ≡ gives y → Given (λ (es : List Device). find id es ≡ gives (withDescription y v)) (obeyDescription id x ds)
   unfolding obeyDescription andThen
   description-changed v y e g = rw (e, g) (changed id (withDescription y) (λ u. refl) ds v e)
 

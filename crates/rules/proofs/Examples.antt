@@ -39,6 +39,7 @@ use Rattle.rules.specs.Questions as questions
 use Rattle.rules.specs.Rules as outcomes
 use Rattle.rules.specs.States as states
 use Rattle.rules.specs.Table as table
+use Rattle.rules.specs.Handover as handover
 
 pub worked-trace : answers (rules (ascii "homie") 4) 3 (blank (rules (ascii "homie") 4)) calls ≡ expected
 unfolding abnf.isEmpty abnf.again abnf.starts abnf.accepts answer.require answer.andThen bytes.every ids.idByte ids.isId levels.onto levels.split utf8.isUtf8 utf8.startsBom
@@ -58,8 +59,8 @@ unfolding abnf.isEmpty abnf.again abnf.starts abnf.accepts answer.require answer
     description.relativeFaults description.rootFaults description.parentRule description.parentFaults description.declared description.deviceFieldFaults description.deviceFaults
     description.jsonFaults description.faults description.told description.describedIn description.answered description.describe
     book.from book.answers devices.find devices.change devices.insert devices.isNamed devices.findProperty devices.changeProperty devices.inDescription devices.inDevice
-    messages.isEmpty messages.makeOrUpdate messages.byWord messages.obeyState messages.describedBy messages.obeyDescription messages.heldBy messages.fill messages.isValid
+    messages.isEmpty messages.makeOrUpdate messages.byWord messages.obeyState messages.redescribed messages.describedBy messages.obeyDescription messages.heldBy messages.fill messages.isValid
     messages.sameFlag messages.valueRules messages.setRules messages.laneRules messages.obeyLane messages.obey messages.isDue messages.admittedForm messages.message questions.at
-    questions.rootLost questions.effective questions.reply outcomes.outcome states.stateWorded table.laneOf table.withLane table.rootOf table.propertiesOf table.emptyLanes
-    table.newDescription bytes.eqBytes entries.isIn
+    questions.rootLost questions.effective questions.reply outcomes.outcome states.stateWorded table.laneOf table.withLane table.rootOf table.propertiesOf handover.succeeding
+    handover.successor handover.republished bytes.eqBytes entries.isIn
 worked-trace = refl

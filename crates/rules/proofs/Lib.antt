@@ -5,6 +5,7 @@ pub mod Refusals
 pub mod Order
 pub mod Taken
 pub mod Effects
+pub mod Handover
 pub mod Proper
 pub mod Effective
 pub mod Examples

@@ -17,13 +17,15 @@ use Rattle.rules.specs.declared.DeviceState.{DeviceState}
 use Rattle.rules.specs.declared.LaneKind.{LaneKind}
 use Rattle.rules.specs.declared.LaneKind.the-variants.{Value, Target, Asked}
 use Rattle.rules.specs.States.{stateWorded}
-use Rattle.rules.specs.Table.{Held, Property, Description, Device, Table, withLane, propertiesOf, emptyLanes, newDescription}
+use Rattle.rules.specs.Table.{Held, Property, Description, Device, Table, withLane, propertiesOf}
 use Rattle.rules.specs.Find.{find, change, remove, insert, isNamed, findProperty, changeProperty, inDescription, inDevice}
-use Rattle.rules.specs.Messages.{Message, isEmpty, withState, newDevice, makeOrUpdate, byWord, obeyState, withDescription, describedBy, obeyDescription, heldBy, fill, isValid, valueRules, setRules, targetRules, laneRules, obeyLane, obey}
+use Rattle.rules.specs.Handover.{republished}
+use Rattle.rules.specs.Messages.{Message, isEmpty, withState, newDevice, makeOrUpdate, byWord, obeyState, withDescription, redescribed, describedBy, obeyDescription, heldBy, fill, isValid, valueRules, setRules, targetRules, laneRules, obeyLane, obey}
 use Rattle.rules.specs.Rules.{rules}
 use Rattle.rules.specs.Promises.{declaredIn, holdsValid, lanesValid, allValid, Proper}
 use Rattle.rules.proofs.Answers.{Given, given, given-require, given-then, given-choice}
 use Rattle.rules.proofs.Taken.{message-given, from-holds}
+use Rattle.rules.proofs.Handover.{successors-declared, successors-valid}
 
 -- ---- what holds of each device, found, changed, taken out, put in
 
@@ -123,26 +125,17 @@ none-some {A} e = absurd (false≢true (subst isNone e refl))
     isNone none = true ≡ true
     isNone (some z) = false ≡ true
 
-empty-declared : (ps : List declaration.Property) → map (λ (p : Property). p .declared) (emptyLanes ps) ≡ ps
-unfolding emptyLanes
-empty-declared [] = refl
-empty-declared (p ∷ ps) = ap (λ (l : List declaration.Property). p ∷ l) (empty-declared ps)
-
-empty-valid : (ps : List declaration.Property) → allValid (emptyLanes ps) ≡ true
-unfolding emptyLanes allValid lanesValid holdsValid
-empty-valid [] = refl
-empty-valid (p ∷ ps) = empty-valid ps
-
-new-proper : (id : List ℕ) (x : Described) → Declares id x → Proper id (newDescription x)
-unfolding newDescription declaredIn
-new-proper id x h = record {
-  declares = subst (λ (ps : List declaration.Property). Declares id (record { root = x .root; parent = x .parent; version = x .version; properties = ps })) (sym (empty-declared (x .properties))) h;
-  lanes = empty-valid (x .properties);
+republished-proper : (id : List ℕ) (old : List Property) (x : Described) → Declares id x → Proper id (republished old x)
+unfolding republished declaredIn
+republished-proper id old x h = record {
+  declares = subst (λ (ps : List declaration.Property). Declares id (record { root = x .root; parent = x .parent; version = x .version; properties = ps })) (sym (successors-declared old (x .properties))) h;
+  lanes = successors-valid old (x .properties);
 }
 
-described-proper : (id s : List ℕ) → Given (λ (o : Option Description). (y : Description) → o ≡ some y → Proper id y) (describedBy id s)
-unfolding describedBy
-described-proper id s = given-choice Q (isEmpty s) _ _ (λ y e. none-some e) (given-then Q (describe id s) _ (λ x e y i. let j : newDescription x ≡ y = cc in subst (Proper id) j (new-proper id x (declares id s x e))))
+described-proper : (id : List ℕ) (old : Option Description) (s : List ℕ) → Given (λ (o : Option Description). (y : Description) → o ≡ some y → Proper id y) (describedBy id old s)
+unfolding describedBy redescribed
+described-proper id old s = given-choice Q (isEmpty s) _ _ (λ y e. none-some e) (given-then Q (describe id s) _ (λ x e y i.
+    let j : republished (propertiesOf old) x ≡ y = cc in subst (Proper id) j (republished-proper id (propertiesOf old) x (declares id s x e))))
   where
     Q : Option Description → Type 0
     Q o = (y : Description) → o ≡ some y → Proper id y
@@ -181,8 +174,8 @@ module _ (d : ℕ) (x : Message) (ds : List Device) (all : All Good ds) where
 
   description-proper : (id : List ℕ) → Given (All Good) (obeyDescription id x ds)
   unfolding obeyDescription
-  description-proper id = given-then (All Good) (find id ds) _ (λ v e. given-then (All Good) (describedBy id (x .payload)) _ (λ o g.
-      all-change Good id (withDescription o) ds v e (λ y i. subst (λ (n : List ℕ). Proper n y) (sym (all-found Good id ds v all e .1)) (given (λ (o : Option Description). (y : Description) → o ≡ some y → Proper id y) (described-proper id (x .payload)) g y i)) all))
+  description-proper id = given-then (All Good) (find id ds) _ (λ v e. given-then (All Good) (describedBy id (v .description) (x .payload)) _ (λ o g.
+      all-change Good id (withDescription o) ds v e (λ y i. subst (λ (n : List ℕ). Proper n y) (sym (all-found Good id ds v all e .1)) (given (λ (o : Option Description). (y : Description) → o ≡ some y → Proper id y) (described-proper id (v .description) (x .payload)) g y i)) all))
 
   lanes-proper : (k : LaneKind) (id node property : List ℕ) → Given (All Good) (obeyLane k id node property x ds)
   unfolding obeyLane fill

@@ -12,6 +12,7 @@ use Rattle.text.proofs.Bytes.{both}
 use Rattle.memory.specs.Bytes.{removeAt, insertAt}
 use Rattle.rules.specs.Table.{Property, Device}
 use Rattle.rules.specs.Find.{find, change, remove, insert, isNamed, findProperty, changeProperty, firstAt, changeAt}
+use Rattle.rules.specs.Questions.{at}
 
 -- ---- the first that passes a test
 
@@ -63,6 +64,20 @@ module _ {A : Type 0} where
   change-length i f [] = refl
   change-length zero f (x ∷ l) = refl
   change-length (suc i) f (x ∷ l) = ap suc (change-length i f l)
+
+-- ---- the i-th of a list
+
+pub at-some : {A : Type 0} (i : ℕ) (l : List A) (z : A) → i < length l → at i l ≡ gives (getD l i z)
+unfolding at
+at-some i [] z h = absurd (not-suc-le-zero h)
+at-some zero (x ∷ l) z h = refl
+at-some (suc i) (x ∷ l) z h = at-some i l z (le-of-suc-le-suc h)
+
+pub at-none : {A : Type 0} (i : ℕ) (l : List A) → length l ≤ i → at i l ≡ refused (only 3)
+unfolding at
+at-none i [] h = refl
+at-none zero (x ∷ l) h = absurd (not-suc-le-zero h)
+at-none (suc i) (x ∷ l) h = at-none i l (le-of-suc-le-suc h)
 
 -- ---- devices
 

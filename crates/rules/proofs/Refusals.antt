@@ -118,8 +118,9 @@ unfolding rule.obeyState
 obeys-state d id x ds = chosen ofMessage (rule.isEmpty (x .payload)) _ _ (of-device ofMessage id ds _ refl (λ v. refl)) (worded d id (x .time) ds (stateWorded (x .payload)))
 
 obeys-description : (id : List ℕ) (x : rule.Message) (ds : List Device) → Passes ofMessage (rule.obeyDescription id x ds)
-unfolding rule.obeyDescription rule.describedBy
-obeys-description id x ds = of-device ofMessage id ds _ refl (λ v. then ofMessage (rule.describedBy id (x .payload)) _ (chosen ofMessage (rule.isEmpty (x .payload)) _ _ refl (then ofMessage (describe id (x .payload)) _ (described id (x .payload)) (λ y. refl))) (λ y. refl))
+unfolding rule.obeyDescription rule.describedBy rule.redescribed
+obeys-description id x ds = of-device ofMessage id ds _ refl (λ v. then ofMessage (rule.describedBy id (v .description) (x .payload)) _
+    (chosen ofMessage (rule.isEmpty (x .payload)) _ _ refl (then ofMessage (describe id (x .payload)) _ (described id (x .payload)) (λ y. refl))) (λ y. refl))
 
 lane-rules : (k : LaneKind) (p : Property) (x : rule.Message) (a : Answer (List Device)) → Passes ofMessage a → Passes ofMessage (rule.laneRules k p x a)
 unfolding rule.laneRules rule.valueRules rule.setRules rule.targetRules

@@ -112,7 +112,7 @@ module _ (d : ℕ) (x : Message) (ds : List Device) (o : Invariant d ds) where
 
   description-orderly : (id : List ℕ) → Given (Invariant d) (obeyDescription id x ds)
   unfolding obeyDescription
-  description-orderly id = given-then (Invariant d) (find id ds) _ (λ v e. given-then (Invariant d) (describedBy id (x .payload)) _ (λ y g. change-orderly id (withDescription y) (λ u. refl) d ds o))
+  description-orderly id = given-then (Invariant d) (find id ds) _ (λ v e. given-then (Invariant d) (describedBy id (v .description) (x .payload)) _ (λ y g. change-orderly id (withDescription y) (λ u. refl) d ds o))
 
   lane-orderly : (k : LaneKind) (id node property : List ℕ) → Given (Invariant d) (obeyLane k id node property x ds)
   unfolding obeyLane fill inDevice

@@ -1,9 +1,9 @@
 -- What the rules of the table promise. Paper 01, "The table", "Refusal numbers", "Easy errors".
 use Prim.Native.Nat.{ℕ, suc}
 use native.Mathlib.Omega.{arith}
-use mathlib.Core.Path.{_≡_, refl, ap}
-use mathlib.Core.List.{List}
-use mathlib.Core.Bool.{true}
+use mathlib.Core.Path.{_≡_, refl, ap, _∙_}
+use mathlib.Core.List.{List, [], map}
+use mathlib.Core.Bool.{true, false}
 use mathlib.Core.Option.{Option, none, some}
 use lib.ListN.{length}
 use Rattle.text.specs.Ascii.{ascii}
@@ -14,15 +14,18 @@ use Rattle.rules.specs.declared.DeviceState.{DeviceState}
 use Rattle.rules.specs.declared.DeviceState.the-variants.{Lost}
 use Rattle.rules.specs.declared.LaneKind.the-variants.{Value, Target, Asked}
 use Rattle.rules.specs.States.{stateWorded}
-use Rattle.rules.specs.Table.{Description, Device, Table, noDevices, rootOf}
-use Rattle.rules.specs.Find.{find}
+use Rattle.description.specs.Description.{Described, describe}
+use Rattle.rules.specs.Table.{Property, Description, Device, Table, noDevices, rootOf, newDescription}
+use Rattle.rules.specs.Find.{find, findProperty, inDevice}
+use Rattle.rules.specs.Handover.{republished}
 use Rattle.rules.specs.Messages.{Message, isEmpty, withDescription, describedBy, heldBy, obey, message}
 use Rattle.rules.specs.Questions.{Question, askLane, aLane, effective, reply}
 use Rattle.rules.specs.Rules.{rules, outcome}
-use Rattle.rules.specs.Promises.{Takes, ascends, haveIds, Invariant, NotBefore, updated, without, deviceIn, isReport, Proper, ofMessage, ofQuestion}
+use Rattle.rules.specs.Promises.{Takes, ascends, haveIds, Invariant, NotBefore, updated, without, deviceIn, isReport, declaredIn, settled, Proper, ofMessage, ofQuestion}
 use Rattle.rules.proofs.Answers.{Given, given}
 use Rattle.rules.proofs.Refusals.{message-refused, reply-refused}
 use Rattle.rules.proofs.Taken.{form-message, last-given, from-orderly, from-due}
+use Rattle.rules.proofs.Handover.{again, settled-device, asked-again, kept-target, kept-value, found-retained, first-bare}
 use Rattle.rules.proofs.Proper.{from-proper}
 use Rattle.rules.proofs.Effects.{obey-others, obey-report, lane-forgotten, lane-others-asked, value-asked, value-target, state-made, state-removed, state-freed, state-lanes, description-changed, lane-filled}
 use Rattle.rules.proofs.Effective.{no-root, root-lost, root-not-lost}
@@ -70,10 +73,26 @@ module _ (domain : List ℕ) (d : ℕ) where
     unfolding obey
     state-frees {id} h e = effect (λ ds. suc (length ds) ≡ length (t .devices)) h (state-freed d x (t .devices) id e)
 
-    -- "description: replaces what the device has; all lanes become empty. Empty payload removes the description and the lanes."
-    pub described : {id : List ℕ} {v : Device} {y : Option Description} → Takes domain d t x (form.description id) t′ → find id (t .devices) ≡ gives v → describedBy id (x .payload) ≡ gives y → find id (t′ .devices) ≡ gives (withDescription y v)
+    -- "description: replaces what the device has", but for the lanes that it hands on (paper 02, K2). "Empty payload removes the description and the lanes."
+    pub described : {id : List ℕ} {v : Device} {y : Option Description} → Takes domain d t x (form.description id) t′ → find id (t .devices) ≡ gives v → describedBy id (v .description) (x .payload) ≡ gives y → find id (t′ .devices) ≡ gives (withDescription y v)
     unfolding obey
     described {id} {v} {y} h e g = effect (λ ds. find id ds ≡ gives (withDescription y v)) h (description-changed d x (t .devices) id v y e g)
+
+    -- paper 02, K2: "our picture goes blank while the house works" no more. A description published again as it is keeps every target and, of retained
+    -- properties, every value; what was asked is gone, and so is the value of a property that is not retained
+    module _ {id : List ℕ} {v : Device} {y : Description} (h : Takes domain d t x (form.description id) t′) (e : find id (t .devices) ≡ gives v) (i : v .description ≡ some y) (g : Proper id y)
+        (filled : isEmpty (x .payload) ≡ false) (same : describe id (x .payload) ≡ gives (declaredIn y)) where
+      pub republished-same : find id (t′ .devices) ≡ gives (inDevice (map settled) v)
+      republished-same = described h e (again id v y i g (x .payload) filled same) ∙ ap gives (settled-device id v y i)
+
+      pub republished-targets : (node property : List ℕ) → reply t′ (askLane id node property Target) ≡ reply t (askLane id node property Target)
+      unfolding reply
+      republished-targets node property = asked-again Target id node property v y i (t .devices) (t′ .devices) e republished-same (λ p k. kept-target p)
+
+      pub republished-values : (node property : List ℕ) {p : Property} → findProperty node property (y .properties) ≡ gives p → p .declared .retained ≡ true
+          → reply t′ (askLane id node property Value) ≡ reply t (askLane id node property Value)
+      unfolding reply
+      republished-values node property {p} f r = asked-again Value id node property v y i (t .devices) (t′ .devices) e republished-same (λ q k. kept-value q (found-retained f k r))
 
     -- "value, target: fill that lane; empty payload empties it"; "set: fills asked"
     pub value-fills : {id n p : List ℕ} → Takes domain d t x (form.value id n p) t′ → reply t′ (askLane id n p Value) ≡ gives (aLane (heldBy x))
@@ -148,6 +167,10 @@ module _ (domain : List ℕ) (d : ℕ) where
 -- "Questions: 6, 12, 16, 3 as they apply."
 pub question-numbers : (t : Table) (q : Question) (r : Refusal) → reply t q ≡ refused r → ofQuestion r ≡ true
 question-numbers = reply-refused
+
+-- a device that had no properties is handed nothing: all lanes are empty
+pub described-first : (x : Described) → republished [] x ≡ newDescription x
+described-first = first-bare
 
 -- ---- "Effective state: `lost` if the device has a root that is in the table with own state `lost`; else its own."
 

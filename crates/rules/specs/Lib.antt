@@ -1,6 +1,7 @@
 pub mod States
 pub mod Table
 pub mod Find
+pub mod Handover
 pub mod Messages
 pub mod Questions
 pub mod Rules

@@ -16,8 +16,9 @@ use Rattle.rules.specs.declared.DeviceState.{DeviceState}
 use Rattle.rules.specs.declared.LaneKind.{LaneKind}
 use Rattle.rules.specs.declared.LaneKind.the-variants.{Value, Target, Asked}
 use Rattle.rules.specs.States.{stateWorded}
-use Rattle.rules.specs.Table.{Held, Property, Device, Description, Table, withLane, propertiesOf, newDescription}
+use Rattle.rules.specs.Table.{Held, Property, Device, Description, Table, withLane, propertiesOf}
 use Rattle.rules.specs.Find.{find, change, remove, insert, findProperty, changeProperty, inDevice}
+use Rattle.rules.specs.Handover.{republished}
 
 -- a finished message: its time, its topic, the flag "retained as published", its payload
 pub record Message : Type 0 where
@@ -61,15 +62,19 @@ obeyState d id x ds = elim (isEmpty (x .payload)) [
 abbrev pub withDescription : Option Description → Device → Device
 withDescription y v = record { id = v .id; state = v .state; time = v .time; description = y }
 
--- "description: replaces what the device has; all lanes become empty. Empty payload removes the description and the lanes."
-unfoldable pub describedBy : List ℕ → List ℕ → Answer (Option Description)
-describedBy id payload = elim (isEmpty payload) [
-  | true ↦ gives none
-  | false ↦ andThen (describe id payload) (λ y. gives (some (newDescription y)))
-]
+-- a description that is not empty "replaces what the device has", but for the lanes that are handed on (paper 02, K2)
+unfoldable pub redescribed : (id : List ℕ) → (old : Option Description) → (payload : List ℕ) → Answer (Option Description)
+redescribed id old payload = andThen (describe id payload) (λ y. gives (some (republished (propertiesOf old) y)))
+
+-- "Empty payload removes the description and the lanes."; paper 02, K2: "An empty description still clears everything."
+unfoldable pub describedBy : (id : List ℕ) → (old : Option Description) → (payload : List ℕ) → Answer (Option Description)
+describedBy id old payload = elim (isEmpty payload) [ true ↦ gives none | false ↦ redescribed id old payload ]
 
 unfoldable pub obeyDescription : List ℕ → Message → List Device → Answer (List Device)
-obeyDescription id x ds = andThen (find id ds) (λ v. andThen (describedBy id (x .payload)) (λ y. gives (change id (withDescription y) ds)))
+obeyDescription id x ds =
+    andThen (find id ds) (λ v.
+    andThen (describedBy id (v .description) (x .payload)) (λ y.
+    gives (change id (withDescription y) ds)))
 
 -- ---- value, set, target
 

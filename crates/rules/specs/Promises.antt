@@ -16,6 +16,7 @@ use Rattle.rules.specs.declared.DeviceState.{DeviceState}
 use Rattle.rules.specs.declared.LaneKind.{LaneKind}
 use Rattle.rules.specs.Table.{Held, Property, Description, Device, Table, withLane}
 use Rattle.rules.specs.Find.{inDevice}
+use Rattle.rules.specs.Handover.{keptIf}
 use Rattle.rules.specs.Messages.{Message, withState, newDevice, isValid, admittedForm, message}
 
 -- a message of that form, taken by the table t, which is t′ then
@@ -97,6 +98,10 @@ lanesValid p = holdsValid p (p .value) && (holdsValid p (p .target) && holdsVali
 unfoldable pub allValid : List Property → Bool
 allValid [] = true
 allValid (p ∷ ps) = lanesValid p && allValid ps
+
+-- paper 02, K2: a property whose description is published again as it was. The target stays, a value where it is retained, and nothing is asked
+unfoldable pub settled : Property → Property
+settled p = record { declared = p .declared; value = keptIf (p .declared .retained) (p .value); target = p .target; asked = none }
 
 -- what holds of the description that a device with that ID has
 pub record Proper (id : List ℕ) (y : Description) : Type 0 where

@@ -72,7 +72,7 @@ unfoldable pub propertiesOf : Option Description → List Property
 propertiesOf none = []
 propertiesOf (some x) = x .properties
 
--- "description: replaces what the device has; all lanes become empty."
+-- a description as its text says, before anything is handed on to it (Handover): all lanes are empty
 unfoldable pub emptyLanes : List declaration.Property → List Property
 emptyLanes [] = []
 emptyLanes (p ∷ ps) = record { declared = p; value = none; target = none; asked = none } ∷ emptyLanes ps

@@ -1,10 +1,10 @@
 -- A message obeyed by one change, or refused.
-use Prim.Native.Nat.{ℕ, _+_, _≤_}
+use Prim.Native.Nat.{ℕ, _+_, _≤_, _<_}
 use native.Mathlib.Omega.{arith}
-use mathlib.Core.Path.{_≡_, refl, sym, ap, _∙_, subst}
+use mathlib.Core.Path.{_≡_, refl, sym, ap, ap₂, _∙_, subst}
 use mathlib.Core.List.{List, []}
 use mathlib.Core.Bool.{Bool, true, false, false≢true}
-use mathlib.Core.Option.{none, some}
+use mathlib.Core.Option.{Option, none, some}
 use lib.ListN.{length, getD, take, drop, length-drop}
 use lib.Seq.{take-all}
 use Rattle.answer.specs.Answer.{Refusal, Answer, refused, gives, andThen, only, placed}
@@ -19,30 +19,37 @@ use Rattle.description.proofs.Theorems as declared
 use Rattle.description.specs.declared.Description.{Description}
 use Rattle.memory.specs.Bytes.{removeAt, insertAt}
 use Rattle.memory.specs.Layout.{roomSize}
+use Rattle.memory.specs.State.{roomOf, state}
 use Rattle.journal.specs.Contract.{changeOf, Committed}
 use Rattle.book.specs.Book.{message}
 use Rattle.rules.specs.declared.DeviceState.{DeviceState}
 use Rattle.rules.specs.declared.LaneKind.{LaneKind}
-use Rattle.rules.specs.Table.{Device, Table, withLane, newDescription}
+use Rattle.rules.specs.Table as table
+use Rattle.rules.specs.Table.{Device, Table, withLane, propertiesOf}
+use Rattle.rules.specs.Handover.{republished}
 use Rattle.rules.specs.Find.{inDevice, changeAt}
 use Rattle.rules.specs.Messages as rule
-use Rattle.rules.specs.Messages.{Message, heldBy, newDevice, withState, withDescription, admittedForm, obey}
-use Rattle.rules.specs.Questions.{Value, taken}
+use Rattle.rules.specs.Messages.{Message, heldBy, newDevice, withState, withDescription, redescribed, admittedForm, obey}
+use Rattle.rules.specs.Questions.{Value, taken, at}
+use Rattle.rules.proofs.Ranks.{at-some}
 use Rattle.rules.specs.Rules.{outcome}
 use Rattle.text.specs.Ids.{idMost}
 use Rattle.device.specs.Layout.{describedAt, laneAt, laneSize, payloadMost}
 use Rattle.lookup.specs.Meaning.{Sound, lastOf, openingOf, means, devicesIn}
 use Rattle.lookup.specs.Contract.{Did, isTaken}
 use Rattle.lookup.proofs.Edits as edit
-use Rattle.lookup.proofs.Theorems.{left, took}
+use Rattle.lookup.proofs.Theorems.{left, took, device-at}
 use Rattle.verdict.specs.declared.Verdict.{Verdict}
 use Rattle.verdict.specs.declared.Verdict.the-variants as verdict
 use Rattle.verdict.specs.Verdict.{sent, makes, Verdicts, obeyed}
+use Rattle.device.specs.Decode.{deviceOf}
 use Rattle.device.specs.Meaning.{laneNumber}
 use Rattle.patch.specs.Makes.{Makes, LaneMakes, heldSince}
 use Rattle.patch.proofs.Theorems.{lane, lane-inside}
 use Rattle.imprint.specs.Contract.{Imprinted}
 use Rattle.imprint.proofs.Theorems as imprint
+use Rattle.handover.specs.Contract.{HandedOver}
+use Rattle.handover.proofs.Theorems as handover
 use Rattle.table.specs.Parts.{Obeys, Carries, Fills, Creates, Describes, Patches, Writes}
 
 -- "Every message taken becomes the last time"
@@ -142,27 +149,46 @@ module _ (m : List ℕ) (rank offset : ℕ) (bytes : List ℕ) (time : ℕ) (m�
 -- ---- a description
 
 module _ (m : List ℕ) (rank : ℕ) (id payload : List ℕ) (time : ℕ) (d : Description) (e : meaning payload d ≡ describe id payload) where
-  abbrev new : Described → Answer (List Device)
-  new y = gives (changeAt rank (withDescription (some (newDescription y))) (devicesIn m))
+  abbrev new : Option table.Description → Answer (List Device)
+  new y = gives (changeAt rank (withDescription y) (devicesIn m))
 
-  -- what the rules make of the devices, by what the description is
-  by-description : (x : Message) (p : Place) (a : Answer Described) → x .payload ≡ payload → id ≡ bytesAt (x .topic) p → describe id payload ≡ a → Verdicts m x (verdict.Describe rank p) → obeyed (openingOf m .domain) (openingOf m .devices) (means m .now) x ≡ andThen a new
-  unfolding makes
-  by-description x p a z q g j = sym (j .says) ∙ ap (λ (u : List ℕ). andThen (describe u (x .payload)) new) (sym q) ∙ ap (λ (u : List ℕ). andThen (describe id u) new) z ∙ ap (λ (u : Answer Described). andThen u new) g
+  -- what the rules make of the devices, by the device that is there
+  by-device : (x : Message) (p : Place) (v : Device) → x .payload ≡ payload → id ≡ bytesAt (x .topic) p → at rank (devicesIn m) ≡ gives v → Verdicts m x (verdict.Describe rank p)
+      → obeyed (openingOf m .domain) (openingOf m .devices) (means m .now) x ≡ andThen (redescribed id (v .description) payload) new
+  unfolding makes andThen
+  by-device x p v z q g j =
+      sym (j .says)
+      ∙ ap (λ (a : Answer Device). andThen a (λ w. andThen (redescribed (bytesAt (x .topic) p) (w .description) (x .payload)) new)) g
+      ∙ ap₂ (λ (u s : List ℕ). andThen (redescribed u (v .description) s) new) (sym q) z
+
+  -- and by what the description is
+  by-description : (x : Message) (p : Place) (v : Device) (a : Answer Described) → x .payload ≡ payload → id ≡ bytesAt (x .topic) p → at rank (devicesIn m) ≡ gives v → describe id payload ≡ a
+      → Verdicts m x (verdict.Describe rank p) → obeyed (openingOf m .domain) (openingOf m .devices) (means m .now) x ≡ andThen (andThen a (λ y. gives (some (republished (propertiesOf (v .description)) y)))) new
+  unfolding redescribed
+  by-description x p v a z q g i j = by-device x p v z q g j ∙ ap (λ (b : Answer Described). andThen (andThen b (λ y. gives (some (republished (propertiesOf (v .description)) y)))) new) i
+
+  -- the device of the rank is what its room means
+  there : (room : List ℕ) → room ≡ roomOf (state m .now) rank → rank < length (devicesIn m) → at rank (devicesIn m) ≡ gives (deviceOf room)
+  there room r h = at-some rank (devicesIn m) (deviceOf room) h ∙ ap gives (device-at m rank (deviceOf room) h ∙ ap deviceOf (sym r))
 
   pub described-not : (place number : ℕ) → d .told ≡ At place number → Describes m rank id payload time m (refused (placed number place))
   unfolding andThen
-  described-not place number f topic retained p q s j = let x = sent time topic retained payload in refuses m x (placed number place) s (by-description x p (refused (placed number place)) refl q (declared.not-taken id payload d e f) j)
+  described-not place number f topic retained p q s j =
+      let x = sent time topic retained payload in
+      refuses m x (placed number place) s (by-description x p _ (refused (placed number place)) refl q (there (roomOf (state m .now) rank) refl (j .fits)) (declared.not-taken id payload d e f) j)
 
-  pub described : d .told ≡ Nothing → (image : List ℕ) → length image ≡ roomSize → Imprinted payload d image → (m′ : List ℕ) (o : Answer Value)
-      → (n : ℕ) → Patches m rank describedAt (take n (drop describedAt image)) time m′ o → length image ≤ n + describedAt → Describes m rank id payload time m′ o
+  pub described : d .told ≡ Nothing → (image : List ℕ) → length image ≡ roomSize → Imprinted payload d image
+      → (room image′ : List ℕ) → room ≡ roomOf (state m .now) rank → HandedOver image room image′ → (m′ : List ℕ) (o : Answer Value)
+      → (n : ℕ) → Patches m rank describedAt (take n (drop describedAt image′)) time m′ o → length image′ ≤ n + describedAt → Describes m rank id payload time m′ o
   unfolding andThen
-  described t image l k m′ o n w b topic retained p q s j =
-      let h = subst (λ (u : List ℕ). Patches m rank describedAt u time m′ o) (take-all n (drop describedAt image) (omega (arith, length-drop describedAt image))) w in
+  described t image l k room image′ r h m′ o n w b topic retained p q s j =
+      let u = subst (λ (u : List ℕ). Patches m rank describedAt u time m′ o) (take-all n (drop describedAt image′) (omega (arith, length-drop describedAt image′))) w in
       let x = sent time topic retained payload in
       let y = describedIn payload (ws payload 0) in
       let g = declared.taken id payload d e t in
-      h s (j .fits) (omega (arith, length-drop describedAt image)) (withDescription (some (newDescription y))) (imprint.makes id payload image d y e g k) x refl (by-description x p (gives y) refl q g j)
+      u s (j .fits) (omega (arith, h .long, length-drop describedAt image′)) (withDescription (some (republished (propertiesOf (deviceOf room .description)) y)))
+      (handover.makes image l room image′ h y (imprint.makes id payload image d y e g k)) x refl
+      (by-description x p (deviceOf room) (gives y) refl q (there room r (j .fits)) g j)
 
 -- ---- the verdict on a message
 

@@ -93,7 +93,7 @@ pub(crate) fn fill(
     patch(mem, rank, offset, &bytes, time)
 }
 
-// "description: replaces what the device has; all lanes become empty." Refused: what is told of it.
+// "description: replaces what the device has", but for the lanes that its room hands on. Refused: what is told of it.
 pub(crate) fn describe(mem: &mut [u8], rank: u8, id: &[u8], payload: &[u8], time: u64) -> Outcome
     ensures { λ r. ⌜ Describes (now (mem .entry)) rank (now (id .entry)) (now (payload .entry)) time (now (mem .exit)) (said r) ⌝ }
 {
@@ -102,6 +102,7 @@ pub(crate) fn describe(mem: &mut [u8], rank: u8, id: &[u8], payload: &[u8], time
     if let Told::At(place, number) = told {
         return Outcome::Faulty(number, place);
     }
-    let image = imprint::description(payload, d);
+    let mut image = imprint::description(payload, d);
+    handover::hand_over(&mut image, lookup::room(mem, rank));
     patch(mem, rank, DESCRIBED, &image[DESCRIBED..], time)
 }

@@ -3,17 +3,17 @@ use Prim.Native.Nat.{ℕ, _≤_, _<_}
 use mathlib.Core.Path.{_≡_}
 use mathlib.Core.List.{List}
 use mathlib.Core.Bool.{Bool}
-use mathlib.Core.Option.{none, some}
+use mathlib.Core.Option.{none}
 use lib.ListN.{length}
 use Rattle.answer.specs.Answer.{Answer, refused, gives, andThen, only}
 use Rattle.text.specs.Places.{bytesAt}
-use Rattle.description.specs.Description.{describe}
 use Rattle.memory.specs.Bytes.{removeAt, insertAt}
 use Rattle.text.specs.Ids.{idMost}
 use Rattle.device.specs.Layout.{propertiesMost, payloadMost}
-use Rattle.rules.specs.Table.{Device, Table, withLane, newDescription}
+use Rattle.rules.specs.Table.{Device, Table, withLane}
 use Rattle.rules.specs.Find.{inDevice, changeAt}
-use Rattle.rules.specs.Messages.{Message, withState, newDevice, withDescription, heldBy, admittedForm, obey}
+use Rattle.rules.specs.Messages.{Message, withState, newDevice, withDescription, redescribed, heldBy, admittedForm, obey}
+use Rattle.rules.specs.Questions.{at}
 use Rattle.lookup.specs.Meaning.{openingOf, means, devicesIn}
 use Rattle.verdict.specs.declared.Verdict.{Verdict}
 use Rattle.verdict.specs.declared.Verdict.the-variants.{Refused, Time, Remove, State, Create, Undescribe, Describe, Lane}
@@ -22,7 +22,7 @@ use Rattle.verdict.specs.declared.Verdict.the-variants.{Refused, Time, R
 abbrev pub sent : ℕ → List ℕ → Bool → List ℕ → Message
 sent time topic retained payload = record { time = time; topic = topic; retained = retained; payload = payload }
 
--- what becomes of the devices; a description is judged when it is written: 12, then 21 to 25
+-- what becomes of the devices; a description is judged when it is written: 12, then 21 to 25. (No rank is refused here: see Writable)
 unfoldable pub makes : Message → List Device → Verdict → Answer (List Device)
 makes x ds (Refused n) = refused (only n)
 makes x ds Time = gives ds
@@ -30,7 +30,7 @@ makes x ds (Remove r) = gives (removeAt r ds)
 makes x ds (State r s) = gives (changeAt r (withState s (x .time)) ds)
 makes x ds (Create r s id) = gives (insertAt r (newDevice (bytesAt (x .topic) id) s (x .time)) ds)
 makes x ds (Undescribe r) = gives (changeAt r (withDescription none) ds)
-makes x ds (Describe r id) = andThen (describe (bytesAt (x .topic) id) (x .payload)) (λ y. gives (changeAt r (withDescription (some (newDescription y))) ds))
+makes x ds (Describe r id) = andThen (at r ds) (λ v. andThen (redescribed (bytesAt (x .topic) id) (v .description) (x .payload)) (λ y. gives (changeAt r (withDescription y) ds)))
 makes x ds (Lane r i kind) = gives (changeAt r (inDevice (changeAt i (withLane kind (heldBy x)))) ds)
 
 -- its ranks are ranks, and what it writes has room, with at most d devices

@@ -4,6 +4,7 @@ use super::descriptions::{description, full_description, Plan};
 use super::edits::edit;
 use super::faulty::faulty_description;
 use super::payloads::near_payload;
+use super::republish::next_description;
 use super::texts::{broken_utf8, id};
 use crate::description::Property;
 use crate::random::Random;
@@ -47,7 +48,8 @@ impl House {
             2 => self.removal(random, table),
             3 => self.describing(random, table),
             4 => self.passing(random, table),
-            5..=8 => self.describing_badly(random, table),
+            5..=7 => self.describing_badly(random, table),
+            8..=10 => self.republishing(random, table),
             _ => self.of_property(random, table),
         };
         message.time = self.time(random, table);
@@ -92,6 +94,17 @@ impl House {
         let full = self.large && random.once_in(3);
         let payload = if full { full_description(random, &plan) } else { description(random, &plan) };
         message(self.topic(&[&id, b"$description"]), true, payload)
+    }
+
+    /// A description that keeps some of what the device has, and of its lanes.
+    pub fn republishing(&self, random: &mut Random, table: &Table) -> Message {
+        let id = self.device(random, table);
+        let plan = Plan { own: &id, others: &self.ids, fault: 400 };
+        let next = table.device(&id).ok().and_then(|device| next_description(random, &plan, device));
+        match next {
+            Some(payload) => message(self.topic(&[&id, b"$description"]), true, payload),
+            None => self.describing(random, table),
+        }
     }
 
     /// A description that is mostly refused.

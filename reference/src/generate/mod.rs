@@ -14,6 +14,7 @@ mod judge;
 pub mod messages;
 pub mod payloads;
 mod replay;
+pub mod republish;
 pub mod texts;
 pub mod topics;
 pub mod traces;

@@ -133,7 +133,7 @@ impl<'a> List<'a> {
 impl List<'_> {
     /// One kind of use for a while.
     pub fn some_calls(&mut self) -> Outcome {
-        match self.random.below(16) {
+        match self.random.below(18) {
             0 => self.fill(),
             1..=4 => self.several(|list| list.house.message(&mut list.random, list.book.table())),
             5 | 6 => self.several(Self::coming_or_going),
@@ -141,6 +141,7 @@ impl List<'_> {
             11 => self.several(Self::describing),
             12 | 13 => self.steps_back(),
             14 => self.questions(),
+            15 | 16 => self.several(Self::living),
             _ => self.ask_everything(3),
         }
     }
@@ -182,6 +183,15 @@ impl List<'_> {
             self.house.describing(&mut self.random, self.book.table())
         } else {
             self.house.describing_badly(&mut self.random, self.book.table())
+        }
+    }
+
+    /// Lanes are filled, and now and then a description keeps some of them.
+    fn living(&mut self) -> Message {
+        if self.random.once_in(4) {
+            self.house.republishing(&mut self.random, self.book.table())
+        } else {
+            self.house.of_property(&mut self.random, self.book.table())
         }
     }
 

@@ -19,6 +19,12 @@ enum-told c = search needs
 description-requires : tie.Need-description-requires
 description-requires c κs = search needs
 
+room-requires : tie.Need-room-requires
+room-requires c κs = search needs
+
+hand-over-requires : tie.Need-hand-over-requires
+hand-over-requires c κs = search needs
+
 sub-patch : tie.Need-sub-patch
 sub-patch c = search needs
 
@@ -26,7 +32,7 @@ part-patch-start : tie.Need-part-patch-start
 part-patch-start c = search needs
 
 part-patch-end : tie.Need-part-patch-end
-part-patch-end c = search needs
+part-patch-end c = omega (arith, c .before .before .hand-over .ensures .long, c .before .before .before .before .before .before .description .ok)
 
 patch-requires : tie.Need-patch-requires
 patch-requires c κs = search needs
@@ -35,7 +41,9 @@ same-length : tie.Need-same-length
 same-length c = search needs
 
 returns-2 : tie.Need-returns-2
-returns-2 c = described _ _ _ _ _ _ (c .before .before .before .before .before .before .before .before .before .describe .ensures) (c .before .before .before .before .before .before .before .enum-told .given .1) (c .before .before .before .before .before .before .description .result) (omega (arith, c .before .before .before .before .before .before .description .ok)) (c .before .before .before .before .before .before .description .ensures) _ _ 7789 (c .before .before .patch .ensures) (omega (arith, c .before .before .before .before .before .before .description .ok))
+returns-2 c =
+    let i = c .before .before .before .before .before .before .before .before .before .before .description in
+    described _ _ _ _ _ _ (c .before .before .before .before .before .before .before .before .before .before .before .before .before .describe .ensures) (c .before .before .before .before .before .before .before .before .before .before .before .enum-told .given .1) (i .result) (omega (arith, i .ok)) (i .ensures) _ _ (c .before .before .before .before .before .before .before .room .ensures) (c .before .before .before .before .before .before .hand-over .ensures) _ _ 7789 (c .before .before .patch .ensures) (omega (arith, i .ok, c .before .before .before .before .before .before .hand-over .ensures .long))
 
 pub describe-spec : {M : Type 1} → statement M
 describe-spec =
@@ -46,6 +54,8 @@ describe-spec =
     returns
     enum-told
     description-requires
+    room-requires
+    hand-over-requires
     sub-patch
     part-patch-start
     part-patch-end
