@@ -15,7 +15,7 @@ use Rattle.json_text.specs.declared.Scan.TheVariants.{End, Bad}
 use Rattle.json_text.specs.Members.{Member}
 use Rattle.escapes.proofs.Theorems as escapes
 use Rattle.fields.specs.Values.{is_string_at, is_array, members, elements}
-use Rattle.accepted.specs.Once.{as_sent, if_whole, decoded, read_at, passes, is_read, Once, Absent, One, Twice, holds, all, is_named, field_in, field, optional, required, names_read}
+use Rattle.accepted.specs.Once.{as_sent, if_whole, decoded, read_at, passes, is_read, Once, Absent, One, Twice, holds, all, one_more, is_named, field_in, field, optional, required, names_read}
 use Rattle.accepted.specs.Rules.{is_text, array_of}
 use Rattle.accepted.specs.Strings.{no_backslash, in_field, throughout, itself, names_of, element_strings}
 use Rattle.accepted.proofs.Same.{first_holds, holds-both, first-all, all_both}
@@ -211,7 +211,7 @@ module _ (s : List ℕ) where
   field_in_lem name f (m ∷ ms) p =
       let q = one_plain s m.name (throughout (λ m. itself m.name) ms) p in
       both (is_named decoded s name m)
-      (λ e. let d = ap (passes (λ t. eq_bytes t name)) (read_alike s m.name q.0) ∙ e in rw (e, d, field_in) (field_in_lem name _ ms q.1))
+      (λ e. let d = ap (passes (λ t. eq_bytes t name)) (read_alike s m.name q.0) ∙ e in rw (e, d, field_in) (field_in_lem name (one_more f m.value) ms q.1))
       (λ e. let d = ap (passes (λ t. eq_bytes t name)) (read_alike s m.name q.0) ∙ e in rw (e, d, field_in) (field_in_lem name f ms q.1))
 
   -- the same field both ways

@@ -1,5 +1,5 @@
 -- A field that does not stand twice is the first of its name, and no member of that name is a later one.
-use Prim.Native.Nat.{ℕ, ◌≤◌}
+use Prim.Native.Nat.{ℕ, ◌+◌, ◌≤◌}
 use native.Mathlib.Omega.{arith}
 use mathlib.Core.Path.{◌≡◌, refl, sym, ap, ◌∙◌}
 use mathlib.Core.List.{List, [], ◌∷◌}
@@ -30,7 +30,7 @@ pub data Alike : Once → Field → Type 0 where
 ascend_in : {n : ℕ} {m : Member} (ms : List Member) → Ascend n ms → In m ms → n ≤ m.value
 ascend_in [] a i = in-none i
 ascend_in (p ∷ ms) (ascend-more l a) (here e) = rw e l
-ascend_in (p ∷ ms) (ascend-more l a) (later i) = let h = ascend_in ms a i in omega arith
+ascend_in {n = n} {m = m} (p ∷ ms) (ascend-more l a) (later i) = let h = ascend_in {n = p.value + 1} {m = m} ms a i in omega arith
 
 this-passes : (name : List ℕ) (d : Decoded) → is_this name d ≡ passes (λ t. eq_bytes t name) (if_whole d)
 unfolding is_this passes if_whole

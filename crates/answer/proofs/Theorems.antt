@@ -2,8 +2,8 @@
 use Prim.Native.Nat.{ℕ}
 use mathlib.Core.Path.{◌≡◌, refl, ap}
 use mathlib.Core.Bool.{Bool, true, false}
-use mathlib.Core.List.{List, [], ◌∷◌}
-use Rattle.answer.specs.Answer.{Answer, refused, gives, require, and_then, only, Refusal, placed}
+use mathlib.Core.List.{[], ◌∷◌}
+use Rattle.answer.specs.Answer.{Answer, refused, require, and_then, only, Refusal, placed}
 
 pub require-holds : {A : Type 0} (t : Bool) (n : ℕ) (a : Answer A) → t ≡ true → require t n a ≡ a
 unfolding require

@@ -3,7 +3,7 @@ use Prim.Native.Nat.{ℕ}
 use mathlib.Core.Path.{◌≡◌, refl, ap, ap₂, ◌∙◌}
 use mathlib.Core.List.{List, ◌∷◌}
 use lib.ListN.{get_or}
-use Rattle.book.specs.Book.{Rules, CallOf, Book, blank, answers, State, fresh, answer, become, outcomes, Run, done, call}
+use Rattle.book.specs.Book.{Rules, CallOf, Book, blank, answers, State, fresh, answer, outcomes, Run, done, call}
 use Rattle.book.specs.Promises.{Everywhere, Meant}
 use Rattle.book.proofs.Agree.{fresh-all}
 use Rattle.book.proofs.Answers.{all_said, all-answered}

@@ -3,6 +3,9 @@
 
 use lines::Input;
 use opening::Opening;
+use std::alloc::{AllocError, Global};
+use std::io;
+use std::io::Write;
 use text::Part;
 
 mod call;
@@ -10,81 +13,102 @@ mod decode;
 mod opening;
 mod say;
 
-fn input_space() -> [u8; 1048577] {
-    [0u8; 1048577]
+fn input_space(alloc: Global) -> Result<Vec<u8>, AllocError> {
+    vec![in alloc; 0u8; 1048577]
 }
 
 // Half as many bytes as the longest input: for all words of a line that are hex.
-fn word_space() -> [u8; 524288] {
-    [0u8; 524288]
+fn word_space(alloc: Global) -> Result<Vec<u8>, AllocError> {
+    vec![in alloc; 0u8; 524288]
 }
 
 // 8,192·129 + 64 bytes: the most that a list may ask for.
-fn memory() -> [u8; 1056832] {
-    [0u8; 1056832]
+fn memory(alloc: Global) -> Result<Vec<u8>, AllocError> {
+    vec![in alloc; 0u8; 1056832]
 }
 
 // Ends a line with n bytes, and prints it.
-fn finish(out: &mut [u8], n: usize) {
+fn finish(to: &mut impl Write, out: &mut [u8], n: usize) -> io::Result<()> {
     let end = lines::out::put(out, n, b"\n");
-    lines::print(out, end);
+    lines::print(to, out, end)?;
+    Ok(())
 }
 
-fn answer_line(mem: &mut [u8], line: &[u8], space: &mut [u8]) {
+fn answer_line(
+    to: &mut impl Write,
+    mem: &mut [u8],
+    line: &[u8],
+    space: &mut [u8],
+) -> io::Result<()> {
     let mut out = [0u8; 1024];
     let n = call::answer(mem, line, space, &mut out);
-    finish(&mut out, n);
+    finish(to, &mut out, n)
 }
 
 // Answers each line; the last one may lack its line feed.
-fn answer_all(mem: &mut [u8], input: &[u8], space: &mut [u8]) {
+fn answer_all(
+    to: &mut impl Write,
+    mem: &mut [u8],
+    input: &[u8],
+    space: &mut [u8],
+) -> io::Result<()> {
     let mut at: usize = 0;
     while at < input.len() {
         let Part::Found { start, end, next } = text::next_part(input, at, b'\n') else {
-            return;
+            return Ok(());
         };
-        answer_line(mem, text::slice(input, start, end), space);
+        answer_line(to, mem, text::slice(input, start, end), space)?;
         at = next;
     }
+    Ok(())
 }
 
 // Answers a line before the opening: there is no memory that could be sound.
-fn answer_early(line: &[u8], space: &mut [u8]) {
+fn answer_early(to: &mut impl Write, line: &[u8], space: &mut [u8]) -> io::Result<()> {
     let mut nothing = [0u8; 0];
-    answer_line(&mut nothing, line, space);
+    answer_line(to, &mut nothing, line, space)
 }
 
 // Answers the lines before the opening, and where it stands.
-fn before(input: &[u8], space: &mut [u8]) -> usize {
+fn before(to: &mut impl Write, input: &[u8], space: &mut [u8]) -> io::Result<usize> {
     let mut at: usize = 0;
     while at < input.len() {
         let Part::Found { start, end, next } = text::next_part(input, at, b'\n') else {
-            return at;
+            return Ok(at);
         };
         let line = text::slice(input, start, end);
         if opening::is_one(line, space) {
-            return at;
+            return Ok(at);
         }
-        answer_early(line, space);
+        answer_early(to, line, space)?;
         at = next;
     }
-    at
+    Ok(at)
 }
 
-fn open(mem: &mut [u8], domain: &[u8], d: usize, j: usize) {
+fn open(to: &mut impl Write, mem: &mut [u8], domain: &[u8], d: usize, j: usize) -> io::Result<()> {
     let mut out = [0u8; 32];
     let n = say::outcome(&mut out, table::open(mem, domain, d, j));
-    finish(&mut out, n);
+    finish(to, &mut out, n)
 }
 
 // Opens the table, and answers the lines after the opening: a second one has no answer.
-fn opened(mem: &mut [u8], input: &[u8], space: &mut [u8], domain: usize, d: usize, j: usize) {
-    open(mem, text::slice(space, 0, domain), d, j);
-    answer_all(mem, input, space);
+fn opened(
+    to: &mut impl Write,
+    mem: &mut [u8],
+    input: &[u8],
+    space: &mut [u8],
+    domain: usize,
+    d: usize,
+    j: usize,
+) -> io::Result<()> {
+    open(to, mem, text::slice(space, 0, domain), d, j)?;
+    answer_all(to, mem, input, space)
 }
 
 // The same on the first bytes of the memory, as many as were asked for.
 fn lend(
+    to: &mut impl Write,
     mem: &mut [u8],
     size: usize,
     input: &[u8],
@@ -92,46 +116,47 @@ fn lend(
     domain: usize,
     d: usize,
     j: usize,
-) {
+) -> io::Result<()> {
     if size > mem.len() {
-        return;
+        return Ok(());
     }
-    opened(&mut mem[0..size], input, space, domain, d, j);
+    opened(to, &mut mem[0..size], input, space, domain, d, j)
 }
 
 // The input from the opening on.
-fn after(input: &[u8], space: &mut [u8]) {
+fn after(alloc: Global, to: &mut impl Write, input: &[u8], space: &mut [u8]) -> io::Result<()> {
     let Part::Found { start, end, next } = text::next_part(input, 0, b'\n') else {
-        return;
+        return Ok(());
     };
     let Opening::Asks { domain, d, j, size } = opening::read(text::slice(input, start, end), space)
     else {
-        return;
+        return Ok(());
     };
-    let mut mem = memory();
+    let mut mem = memory(alloc)?;
     lend(
-        &mut mem,
+        to,
+        mem.as_mut_slice(),
         size,
         text::slice(input, next, input.len()),
         space,
         domain,
         d,
         j,
-    );
+    )
 }
 
-fn answer(input: &[u8]) {
-    let mut space = word_space();
-    let at = before(input, &mut space);
-    after(text::slice(input, at, input.len()), &mut space);
+fn answer(alloc: Global, to: &mut impl Write, input: &[u8]) -> io::Result<()> {
+    let mut lent = word_space(alloc)?;
+    let space = lent.as_mut_slice();
+    let at = before(to, input, space)?;
+    after(alloc, to, text::slice(input, at, input.len()), space)
 }
 
-fn main() {
-    let mut input = input_space();
-    match lines::read_input(&mut input) {
-        Input::Bytes(n) => answer(text::slice(&input, 0, n)),
-        Input::TooLong => {
-            io::write_all(libc::STDOUT_FILENO, b"too long\n");
-        }
+fn main(rt: HostRuntime) -> io::Result<()> {
+    let mut input = input_space(rt.alloc())?;
+    let mut to = rt.stdout();
+    match lines::read_input(&mut rt.stdin(), input.as_mut_slice())? {
+        Input::Bytes(n) => answer(rt.alloc(), &mut to, text::slice(input.as_slice(), 0, n)),
+        Input::TooLong => to.write_all(b"too long\n"),
     }
 }

@@ -10,7 +10,7 @@ use questions::Number;
 use table::Outcome;
 
 // The answers to a message that was sent twice, and how many devices there are then.
-#[derive(Drop)]
+#[derive(Clone, Copy)]
 pub struct Sent {
     first: Outcome,
     again: Outcome,

@@ -26,7 +26,7 @@ const MOST: usize = 8192;
 
 // What is told of a description's faults, and if there is none, what it declares: `version` stands for the number less 2^63, root and parent are places in
 // the text.
-#[derive(Drop)]
+#[derive(Clone, Copy)]
 pub struct Description {
     pub told: Told,
     pub version: u64,
@@ -36,7 +36,7 @@ pub struct Description {
 }
 
 // A device's version, with what is told of its faults.
-#[derive(Drop)]
+#[derive(Clone, Copy)]
 pub struct VersionRead {
     pub told: Told,
     pub value: u64,

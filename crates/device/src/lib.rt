@@ -62,21 +62,21 @@ pub const PAYLOAD: usize = 8;
 pub const PAYLOAD_MOST: usize = payload::PAYLOAD_MOST;
 
 // A byte string that may be missing, as a place in the room.
-#[derive(Drop)]
+#[derive(Clone, Copy)]
 pub enum Text {
     Nothing,
     At { place: Place },
 }
 
 // A version's number plus 2^63.
-#[derive(Drop)]
+#[derive(Clone, Copy)]
 pub enum Version {
     Nothing,
     Is(u64),
 }
 
 // A lane; where it is not filled, its time and payload say nothing.
-#[derive(Drop)]
+#[derive(Clone, Copy)]
 pub struct Lane {
     pub filled: bool,
     pub time: u64,
@@ -84,7 +84,7 @@ pub struct Lane {
 }
 
 // A property: its byte strings are places in the room. The lanes are value, target, asked.
-#[derive(Drop)]
+#[derive(Clone, Copy)]
 pub struct Property {
     pub node: Place,
     pub id: Place,

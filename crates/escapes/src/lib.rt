@@ -10,21 +10,21 @@ ghost use Rattle.escapes.specs.Decode.{decode, written, half_of, is_this, alike,
 ghost use Rattle.escapes.specs.Parts.{coded_of, char_step, step_at, Copied};
 
 // The first half of a surrogate pair, by its backslash; or none.
-#[derive(Drop)]
+#[derive(Clone, Copy)]
 pub enum HalfPair {
     At(usize),
     Nothing,
 }
 
 // A string decoded: how many bytes it has, or its first half of a surrogate pair, by its backslash.
-#[derive(Drop)]
+#[derive(Clone, Copy)]
 pub enum Decoding {
     Whole(usize),
     Half(usize),
 }
 
 // What a backslash writes: a character, and how many bytes after the backslash write it; or half a pair.
-#[derive(Drop)]
+#[derive(Clone, Copy)]
 enum Escaped {
     Char(u32, usize),
     Unpaired,
@@ -32,7 +32,7 @@ enum Escaped {
 
 // A byte that a string writes, with the place of the next one: an index in `raw`, and how many bytes of the character there are past. Or half a pair stands
 // there, or nothing more.
-#[derive(Drop)]
+#[derive(Clone, Copy)]
 enum Step {
     Byte(u8, usize, usize),
     Stop,
@@ -40,7 +40,7 @@ enum Step {
 }
 
 // A character's bytes: the first `n`, the others are zero.
-#[derive(Drop)]
+#[derive(Clone, Copy)]
 struct Coded {
     n: usize,
     bytes: [u8; 4],

@@ -16,7 +16,7 @@ pub const REPEATED: u8 = 24;
 pub const OTHER_RULE: u8 = 25;
 
 // What is told of faults: nothing where there is none, else the place and the number of the first.
-#[derive(Drop)]
+#[derive(Clone, Copy)]
 pub enum Told {
     Nothing,
     At(usize, u8),

@@ -18,7 +18,7 @@ use faults::{OTHER_RULE, REPEATED, Told, WRONG_KIND};
 use json_text::{Item, Scan};
 
 // What a known field may hold.
-#[derive(Drop)]
+#[derive(Clone, Copy)]
 pub enum Kind {
     Text,
     Flag,
@@ -28,7 +28,7 @@ pub enum Kind {
 }
 
 // What an object describes: its known fields differ.
-#[derive(Drop)]
+#[derive(Clone, Copy)]
 pub enum Owner {
     Device,
     Node,
@@ -36,7 +36,7 @@ pub enum Owner {
 }
 
 // A name in an object: no member has it, or some do, with the place of the first one's value.
-#[derive(Drop)]
+#[derive(Clone, Copy)]
 pub enum Field {
     Absent,
     First(usize),
@@ -74,7 +74,7 @@ pub const PROPERTIES: usize = 13;
 pub const EXTENSIONS: usize = 14;
 
 // What is told of an object's names, and of the known field c the place of its first value, `seen[c]`; 0 where there is none.
-#[derive(Drop)]
+#[derive(Clone, Copy)]
 pub struct Known {
     pub told: Told,
     pub seen: [usize; 16],

@@ -1,5 +1,5 @@
 -- What the scanners ensure, passed on.
-use Prim.Native.Nat.{ℕ, ◌-◌, ◌≤◌, ◌<◌}
+use Prim.Native.Nat.{ℕ, ◌≤◌, ◌<◌}
 use native.Mathlib.Omega.{arith}
 use mathlib.Core.Path.{◌≡◌, ◌∙◌, subst}
 use Rattle.json_text.specs.Bytes.{EndsWithin, Scanned, Between, Moved}

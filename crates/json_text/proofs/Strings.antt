@@ -9,7 +9,7 @@ use mathlib.Core.Bool.{Bool, true, false, not, ◌&&◌, true≢false}
 use lib.ListN.{length, get_or, take, drop, drop_of_length-le}
 use lib.Dec.{eqb, leb}
 use lib.Seq.{drop-cons, get_or-drop}
-use borrow.Author.Tests.{ne_eqb, eq-eqb, le-leb, leb-true, eqb-true, eqb-false, not-true}
+use borrow.Author.Tests.{ne_eqb, eq-eqb, le-leb, leb-true, eqb-false, not-true}
 use Rattle.abnf.specs.Accepts.{in_range}
 use Rattle.abnf.proofs.Steps.{in_range_lem}
 use Rattle.json_text.specs.Bytes.{byte, Scanned}

@@ -17,14 +17,14 @@ use number::number;
 use string::{is_plain, mark_string, string};
 
 // What a scan finds: where it ends, or the first place at which nothing that stands there can be right.
-#[derive(Drop)]
+#[derive(Clone, Copy)]
 pub enum Scan {
     End(usize),
     Bad(usize),
 }
 
 // An object's member or an array's element: where its value begins and ends, and where the next one begins; or none is there.
-#[derive(Drop)]
+#[derive(Clone, Copy)]
 pub enum Item {
     At(usize, usize, usize),
     Done,

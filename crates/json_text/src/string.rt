@@ -10,7 +10,7 @@ use super::{in_range, note, peek};
 use crate::Scan;
 
 // Within a string: plain, after a backslash, or with so many hex digits to come.
-#[derive(Drop)]
+#[derive(Clone, Copy)]
 pub enum State {
     Plain,
     Escape,
@@ -21,7 +21,7 @@ pub enum State {
 }
 
 // What a byte does: to another state, past the closing quote, or it cannot stand there.
-#[derive(Drop)]
+#[derive(Clone, Copy)]
 pub enum Move {
     Go(State),
     Shut,

@@ -4,34 +4,36 @@
 ghost use Rattle.std.specs.Prelude.{◌≤◌, length};
 
 use lines::Input;
+use std::io;
+use std::io::Write;
 use text::Part;
 
 mod question;
 mod say;
 
 // Answers each line; the last one may lack its line feed.
-fn answer_all(input: &[u8])
+fn answer_all(to: &mut impl Write, input: &[u8]) -> io::Result<()>
     requires { length input.now ≤ 65536 }
 {
-    let mut out = io::large_buffer();
+    let mut out = lines::large_buffer();
     let mut at: usize = 0;
     while at < input.len() {
         let Part::Found { start, end, next } = text::next_part(input, at, b'\n') else {
-            return;
+            return Ok(());
         };
         let n = question::answer(&input[start..end], &mut out);
         let k = lines::out::put(&mut out, n, b"\n");
-        lines::print(&out, k);
+        lines::print(to, &out, k)?;
         at = next;
     }
+    Ok(())
 }
 
-fn main() {
+fn main(rt: HostRuntime) -> io::Result<()> {
     let mut input = [0u8; 65537];
-    match lines::read_input(&mut input) {
-        Input::Bytes(n) => answer_all(&input[0..n]),
-        Input::TooLong => {
-            io::write_all(libc::STDOUT_FILENO, b"too long\n");
-        }
+    let mut to = rt.stdout();
+    match lines::read_input(&mut rt.stdin(), &mut input)? {
+        Input::Bytes(n) => answer_all(&mut to, &input[0..n]),
+        Input::TooLong => to.write_all(b"too long\n"),
     }
 }

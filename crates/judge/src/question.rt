@@ -70,7 +70,7 @@ fn two(line: &[u8], out: &mut [u8]) -> usize
     requires { length line.now ≤ 65536 }
     ensures { Adds out.old 0 (two_words line.now) result out.new }
 {
-    let mut mem = io::large_buffer();
+    let mut mem = lines::large_buffer();
     let Decoded::Bytes(n) = lines::hex::decode(lines::word::at(line, 1), &mut mem) else {
         return say::unknown(out);
     };
@@ -81,11 +81,11 @@ fn topic_line(line: &[u8], out: &mut [u8]) -> usize
     requires { length line.now ≤ 65536 }
     ensures { Adds out.old 0 (topic_line (word_at line.now 1) (word_at line.now 2)) result out.new }
 {
-    let mut mem = io::large_buffer();
+    let mut mem = lines::large_buffer();
     let Decoded::Bytes(n) = lines::hex::decode(lines::word::at(line, 1), &mut mem) else {
         return say::unknown(out);
     };
-    let mut mem2 = io::large_buffer();
+    let mut mem2 = lines::large_buffer();
     let Decoded::Bytes(k) = lines::hex::decode(lines::word::at(line, 2), &mut mem2) else {
         return say::unknown(out);
     };
@@ -96,11 +96,11 @@ fn description_line(line: &[u8], out: &mut [u8]) -> usize
     requires { length line.now ≤ 65536 }
     ensures { Adds out.old 0 (description_line (word_at line.now 1) (word_at line.now 2)) result out.new }
 {
-    let mut mem = io::large_buffer();
+    let mut mem = lines::large_buffer();
     let Decoded::Bytes(n) = lines::hex::decode(lines::word::at(line, 1), &mut mem) else {
         return say::unknown(out);
     };
-    let mut mem2 = io::large_buffer();
+    let mut mem2 = lines::large_buffer();
     let Decoded::Bytes(k) = lines::hex::decode(lines::word::at(line, 2), &mut mem2) else {
         return say::unknown(out);
     };
@@ -114,7 +114,7 @@ fn format_line(line: &[u8], out: &mut [u8]) -> usize
     let Named::Known(d) = payload::read_datatype(lines::word::at(line, 1)) else {
         return say::unknown(out);
     };
-    let mut mem = io::large_buffer();
+    let mut mem = lines::large_buffer();
     let Decoded::Bytes(n) = lines::hex::decode(lines::word::at(line, 2), &mut mem) else {
         return say::unknown(out);
     };
@@ -125,7 +125,7 @@ fn event_line(line: &[u8], out: &mut [u8]) -> usize
     requires { length line.now ≤ 65536 }
     ensures { Adds out.old 0 (event_line (word_at line.now 1) (word_at line.now 2)) result out.new }
 {
-    let mut mem = io::large_buffer();
+    let mut mem = lines::large_buffer();
     let Decoded::Bytes(n) = lines::hex::decode(lines::word::at(line, 1), &mut mem) else {
         return say::unknown(out);
     };
@@ -163,11 +163,11 @@ fn payload_line(line: &[u8], out: &mut [u8]) -> usize
     let Named::Known(d) = payload::read_datatype(lines::word::at(line, 1)) else {
         return say::unknown(out);
     };
-    let mut mem = io::large_buffer();
+    let mut mem = lines::large_buffer();
     let Decoded::Bytes(n) = lines::hex::decode(lines::word::at(line, 2), &mut mem) else {
         return say::unknown(out);
     };
-    let mut mem2 = io::large_buffer();
+    let mut mem2 = lines::large_buffer();
     let Decoded::Bytes(k) = lines::hex::decode(lines::word::at(line, 3), &mut mem2) else {
         return say::unknown(out);
     };
@@ -193,14 +193,14 @@ fn append_event(line: &[u8], out: &mut [u8], buffer: &mut [u8], used: u64) -> us
     let NumberRead::Value(time) = lines::number::read(lines::word::at(line, 3)) else {
         return say::unknown(out);
     };
-    let mut mem2 = io::large_buffer();
+    let mut mem2 = lines::large_buffer();
     let Decoded::Bytes(n) = lines::hex::decode(lines::word::at(line, 4), &mut mem2) else {
         return say::unknown(out);
     };
     let FlagRead::Is(retained) = lines::flag::read(lines::word::at(line, 5)) else {
         return say::unknown(out);
     };
-    let mut mem3 = io::large_buffer();
+    let mut mem3 = lines::large_buffer();
     let Decoded::Bytes(k) = lines::hex::decode(lines::word::at(line, 6), &mut mem3) else {
         return say::unknown(out);
     };
@@ -211,7 +211,7 @@ fn append_line(line: &[u8], out: &mut [u8]) -> usize
     requires { length line.now ≤ 65536 }
     ensures { Adds out.old 0 (append_words line.now) result out.new }
 {
-    let mut mem = io::large_buffer();
+    let mut mem = lines::large_buffer();
     let Decoded::Bytes(n) = lines::hex::decode(lines::word::at(line, 1), &mut mem) else {
         return say::unknown(out);
     };

@@ -1,52 +1,48 @@
--- The digits that `io::decimal` writes are those of the definition.
-use Prim.Native.Nat.{ℕ, zero, suc, ◌+◌, ◌-◌, ◌*◌, ◌/◌, ◌%◌, ◌^◌, ◌≤◌, ◌<◌}
-use mathlib.Core.Path.{◌≡◌}
-use mathlib.Core.List.{List}
-use native.Mathlib.Omega.{arith}
-use native.Mathlib.Nat.{pow-suc, one-le-pow, pow-le-pow_right}
-use Rattle.text.proofs.Bytes.{at_most}
-use lib.Dec.{lit<}
+-- The digits that `decimal` writes from the back are those of the definition.
+use Rattle.std.proofs.Common.{◌≡◌, ◌∙◌, ℕ, zero, suc, ◌+◌, ◌*◌, ◌/◌, ◌%◌, ◌-◌, ◌^◌, ◌≤◌, ◌<◌, List, [], ◌∷◌, ◌++◌, length, drop, set, refl, sym, ap, append_assoc, append-nil, add-one, arith}
+use Rattle.std.proofs.lemmas.List.{drop-set, drop_all}
+use Rattle.std.proofs.Math.Nat.{pow-suc}
 use borrow.Author.Tests.{le-ltb, lt-ltb}
-use Rattle.io.specs.Digits.{last_digits, hex_digit_ascii, IsDigitCount}
-use Rattle.lines.specs.Out.{Puts}
 use Rattle.lines.specs.Number.{decimal_in, decimal_text}
 
-last-digit : (n : ℕ) → hex_digit_ascii (n % 10) ≡ 48 + n % 10
-last-digit n = rw (lt-ltb (n % 10) 10 (omega arith))
-
-one-digit : (j n : ℕ) → n < 10 → last_digits 10 1 n ≡ decimal_in (suc j) n
+last : (i n : ℕ) → n ≤ 9 → decimal_in (suc i) n ≡ (48 + n) ∷ []
 unfolding decimal_in
-one-digit j n h = let e : n % 10 ≡ n = omega arith in rw (last-digit n, lt-ltb n 10 h, e)
+last i n h = let t : n < 10 = omega arith in rw lt-ltb refl
 
-more-digits : (k j n : ℕ) → 10 ≤ n → last_digits 10 (suc k) (n / 10) ≡ decimal_in j (n / 10) → last_digits 10 (suc (suc k)) n ≡ decimal_in (suc j) n
+more : (i n : ℕ) → 9 < n → decimal_in (suc i) n ≡ decimal_in i (n / 10) ++ ((48 + n % 10) ∷ [])
 unfolding decimal_in
-more-digits k j n h e = rw (last-digit n, le-ltb n 10 h, e)
+more i n h = let t : 10 ≤ n = omega arith in rw le-ltb refl
 
--- n has k + 1 digits
-pub spelled : (k j n : ℕ) → k < j → n < 10 ^ suc k → (0 < k → 10 ^ k ≤ n) → last_digits 10 (suc k) n ≡ decimal_in j n
-spelled zero zero n l h m = absurd (omega arith)
-spelled zero (suc j) n l h m = one-digit j n (omega (arith, pow-suc 10 0))
-spelled (suc k) zero n l h m = absurd (omega arith)
-spelled (suc k) (suc j) n l h m =
-    let p : 10 ^ suc k ≤ n = m (omega arith) in
-    let q : 1 ≤ 10 ^ k = one-le-pow k 10 (omega arith) in
-    let e : 10 ^ suc k ≡ 10 ^ k * 10 = pow-suc 10 k in
-    let f : 10 ^ suc (suc k) ≡ 10 ^ suc k * 10 = pow-suc 10 (suc k) in
-    more-digits k j n (omega arith) (spelled k j (n / 10) (omega arith) (omega arith) (λ z. omega arith))
-
-pub decimal-digits : (r n : ℕ) → r ≤ 20 → IsDigitCount 10 1 n r → last_digits 10 r n ≡ decimal_text n
+-- none is written yet
+pub begins : (n : ℕ) (text : List ℕ) → length text ≡ 20 → decimal_in 20 n ++ drop 20 text ≡ decimal_text n
 unfolding decimal_text
-decimal-digits zero n l f = absurd (omega (arith, f.0))
-decimal-digits (suc k) n l f = spelled k 20 n (omega arith) f.1 (λ z. let e : suc k - 1 ≡ k = omega arith in rw e at (f.2 (omega arith)))
+begins n text h =
+    let e : drop 20 text ≡ [] = drop_all 20 text (omega arith) in
+    rw e (append-nil (decimal_in 20 n))
 
--- a number of 64 bits has at most twenty
-few : (r n : ℕ) → n < 2 ^ 64 → IsDigitCount 10 1 n r → r ≤ 20
-few r n h f = at_most r 20
-    (λ k. k)
-    (λ k.
-    let p : 10 ^ 20 ≤ 10 ^ (r - 1) = pow-le-pow_right (lit< tt) {i = 20} {j = r - 1} (omega arith) in
-    let q : 10 ^ (r - 1) ≤ n = f.2 (omega arith) in
-    absurd (omega arith))
+-- the last digit of what is left is written
+pub goes_on : (i n : ℕ) (text all : List ℕ) → 0 < i → i < length text → 9 < n → decimal_in (suc i) n ++ drop (suc i) text ≡ all → decimal_in (suc (i - 1)) (n / 10) ++ drop (suc (i - 1)) (set text i (48 + n % 10)) ≡ all
+goes_on i n text all some room h e =
+    let same : suc (i - 1) ≡ i = omega arith in
+    let two : drop i (set text i (48 + n % 10)) ≡ (48 + n % 10) ∷ drop (i + 1) text = drop-set text i (48 + n % 10) room in
+    let one : decimal_in (suc i) n ≡ decimal_in i (n / 10) ++ ((48 + n % 10) ∷ []) = more i n h in
+    rw (same, two, add-one) (sym (append_assoc (decimal_in i (n / 10)) ((48 + n % 10) ∷ []) (drop (suc i) text)) ∙ ap (λ (s : List ℕ). s ++ drop (suc i) text) (sym one) ∙ e)
 
-pub decimal_puts : (d : List ℕ) (at n r : ℕ) (t : List ℕ) {p : ℕ} {d' : List ℕ} → n < 2 ^ 64 → IsDigitCount 10 1 n r → t ≡ last_digits 10 r n → Puts d at t p d' → Puts d at (decimal_text n) p d'
-decimal_puts d at n r t h f e p = rw (e, decimal-digits r n (few r n h f) f) at p
+-- one digit was left, and is written
+pub ends : (i n : ℕ) (text all : List ℕ) → i < length text → n ≤ 9 → decimal_in (suc i) n ++ drop (suc i) text ≡ all → drop i (set text i (48 + n % 10)) ≡ all
+ends i n text all room h e =
+    let two : drop i (set text i (48 + n % 10)) ≡ (48 + n % 10) ∷ drop (i + 1) text = drop-set text i (48 + n % 10) room in
+    let one : decimal_in (suc i) n ≡ (48 + n) ∷ [] = last i n h in
+    let digit : n % 10 ≡ n = omega arith in
+    rw (two, add-one, digit) (ap (λ (s : List ℕ). s ++ drop (suc i) text) (sym one) ∙ e)
+
+-- what is left is short enough for the places that are left
+pub fits_less : (i n : ℕ) → 0 < i → n < 10 ^ suc i → n / 10 < 10 ^ suc (i - 1)
+fits_less i n some h =
+    let same : suc (i - 1) ≡ i = omega arith in
+    let p : 10 ^ suc i ≡ 10 ^ i * 10 = pow-suc 10 i in
+    rw same (omega arith)
+
+pub not_first : (i n : ℕ) → 9 < n → n < 10 ^ suc i → 0 < i
+not_first zero n h f = absurd (omega (arith, f))
+not_first (suc i) n h f = omega arith

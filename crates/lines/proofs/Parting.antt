@@ -2,13 +2,13 @@
 use Prim.Native.Nat.{ℕ, zero, suc, ◌+◌, ◌-◌, ◌≤◌, ◌<◌}
 use mathlib.Core.Path.{◌≡◌, refl, sym, ◌∙◌}
 use mathlib.Core.List.{List, [], ◌∷◌}
-use mathlib.Core.Bool.{cond}
+use mathlib.Core.Bool.{Bool, true, false, cond}
 use native.Mathlib.Omega.{arith}
 use native.Mathlib.Numerals.{add-one}
-use lib.Dec.{leb}
+use lib.Dec.{leb, eqb}
 use lib.ListN.{length, get_or, drop, drop_of_length-le}
 use lib.Seq.{drop-cons}
-use borrow.Author.Tests.{le-leb, lt-leb, eq-eqb, ne_eqb}
+use borrow.Author.Tests.{le-leb, lt-leb, eq-eqb, ne_eqb, eqb-true, eqb-false}
 use Rattle.text.specs.Bytes.{slice}
 use Rattle.text.specs.Split.{split, onto, part_at}
 use Rattle.text.specs.declared.Part.TheVariants.{Found, Nothing}
@@ -41,20 +41,28 @@ module _ (line : List ℕ) (i : ℕ) where
   unfolding split
   space h e = rw (add-one i, drop-cons line i 0 h, eq-eqb (get_or line i 0) 32 e) (omega arith)
 
-  no-space : i < length line → (get_or line i 0 ≡ 32 → ⊥) → length (split 32 (drop i line)) ≡ length (split 32 (drop (i + 1) line))
+  no_space : i < length line → (get_or line i 0 ≡ 32 → ⊥) → length (split 32 (drop i line)) ≡ length (split 32 (drop (i + 1) line))
   unfolding split
-  no-space h e = rw (add-one i, drop-cons line i 0 h, ne_eqb (get_or line i 0) 32 e) (onto-length (get_or line i 0) (split 32 (drop (suc i) line)) (some_part 32 (drop (suc i) line)))
+  no_space h e = rw (add-one i, drop-cons line i 0 h, ne_eqb (get_or line i 0) 32 e) (onto-length (get_or line i 0) (split 32 (drop (suc i) line)) (some_part 32 (drop (suc i) line)))
 
   at-end : length line ≤ i → length (split 32 (drop i line)) ≡ 1
   unfolding split
   at-end h = rw (drop_of_length-le line h)
 
 module _ {line : List ℕ} {n i : ℕ} (c : Counted line n i) where
-  pub count-space : i < length line → get_or line i 0 ≡ 32 → Counted line (n + 1) (i + 1)
-  count-space h e = record { within = omega arith; few = omega arith; rest = omega (arith, c.rest, space line i h e) }
+  pub count_space : i < length line → get_or line i 0 ≡ 32 → Counted line (n + 1) (i + 1)
+  count_space h e = record { within = omega arith; few = omega arith; rest = omega (arith, c.rest, space line i h e) }
 
   pub count-other : i < length line → (get_or line i 0 ≡ 32 → ⊥) → Counted line n (i + 1)
-  count-other h e = record { within = omega arith; few = omega arith; rest = omega (arith, c.rest, no-space line i h e) }
+  count-other h e = record { within = omega arith; few = omega arith; rest = omega (arith, c.rest, no_space line i h e) }
+
+  -- one more word where the byte is a space
+  pub count-next : {m : ℕ} → i < length line → (get_or line i 0 ≡ 32 → m ≡ n + 1) → ((get_or line i 0 ≡ 32 → ⊥) → m ≡ n) → Counted line m (i + 1)
+  count-next {m} h p q = pick (eqb (get_or line i 0) 32) (eqb-true (get_or line i 0) 32) (eqb-false (get_or line i 0) 32)
+    where
+      pick : (b : Bool) → (b ≡ true → get_or line i 0 ≡ 32) → (b ≡ false → get_or line i 0 ≡ 32 → ⊥) → Counted line m (i + 1)
+      pick true y z = rw (p (y refl)) (count_space h (y refl))
+      pick false y z = rw (q (z refl)) (count-other h (z refl))
 
   pub count-end : length line ≤ i → n ≡ word_count line
   count-end h = omega (arith, c.rest, at-end line i h)

@@ -3,3 +3,4 @@ pub mod Hex
 pub mod Number
 pub mod Flag
 pub mod Out
+pub mod Streams

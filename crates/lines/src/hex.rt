@@ -7,7 +7,7 @@ ghost use Rattle.little_endian.specs.Bytes.{put as over};
 use crate::out::{has_room, put};
 
 // How many bytes a word writes, or that it writes none.
-#[derive(Drop)]
+#[derive(Clone, Copy)]
 pub enum Decoded {
     Bytes(usize),
     Nothing,

@@ -1,11 +1,11 @@
 // Decimal numbers of 64 bits.
-ghost use Rattle.std.specs.Prelude.{◌≡◌};
+ghost use Rattle.std.specs.Prelude.{◌≡◌, ◌≤◌, drop};
 ghost use Rattle.lines.specs.Number.{number_of, number_read, decimal_text};
 ghost use Rattle.lines.specs.Out.{Puts};
 
 use crate::out::put;
 
-#[derive(Drop)]
+#[derive(Clone, Copy)]
 pub enum NumberRead {
     Value(u64),
     Nothing,
@@ -47,11 +47,27 @@ pub fn read(w: &[u8]) -> NumberRead
     NumberRead::Value(a)
 }
 
+// Puts n's digits at the end of text, with no leading zero, and answers where they begin.
+fn decimal(n: u64, text: &mut [u8; 20]) -> usize
+    ensures in_bounds { result ≤ 20 }
+    ensures digits { drop result text.new ≡ decimal_text n }
+{
+    let mut i: usize = 19;
+    let mut rest = n;
+    while rest > 9 {
+        text[i] = 48 + (rest % 10) as u8;
+        rest /= 10;
+        i -= 1;
+    }
+    text[i] = 48 + (rest % 10) as u8;
+    i
+}
+
 // Writes a number with no leading zero, from `at` on.
 pub fn write(out: &mut [u8], at: usize, n: u64) -> usize
     ensures { Puts out.old at (decimal_text n) result out.new }
 {
     let mut text = [0u8; 20];
-    let k = io::decimal(n, &mut text);
-    put(out, at, &text[..k])
+    let k = decimal(n, &mut text);
+    put(out, at, &text[k..])
 }

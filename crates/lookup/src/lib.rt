@@ -20,7 +20,7 @@ const LAST_FLAG: usize = 1;
 const LAST: usize = 2;
 
 // The last time, or none.
-#[derive(Drop)]
+#[derive(Clone, Copy)]
 pub enum LastTime {
     Never,
     At(u64),

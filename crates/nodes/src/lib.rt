@@ -20,7 +20,7 @@ use json_text::Item;
 use properties::{Entries, Judged};
 
 // Nodes judged: what is told of their faults, and if there is none, the list with their properties put in.
-#[derive(Drop)]
+#[derive(Clone, Copy)]
 pub struct Listed {
     pub told: Told,
     pub list: Entries,

@@ -7,7 +7,7 @@ use native.Mathlib.Decide.{dec_lt, dec_le}
 use native.Mathlib.Nat.{mul-sub, mul-add, add-mul, suc-mul, mul-le-mul_left}
 use lib.Arith.{digits_div}
 use lib.Dec.{leb}
-use lib.IntN.{ℤ, pos, negsuc, neg_ℤ, sub_ℕ, ◌+ℤ◌, ◌*ℤ◌}
+use lib.IntN.{pos, negsuc, neg_ℤ, sub_ℕ, ◌+ℤ◌, ◌*ℤ◌}
 use lib.Signed.{le_z}
 use Rattle.numbers.specs.Step.{floor_div}
 use borrow.Author.Tests.{le-leb, lt-leb, lt-ltb, le-ltb}

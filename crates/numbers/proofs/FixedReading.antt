@@ -9,7 +9,6 @@ use mathlib.Core.Bool.{Bool, true, false, cond, ◌&&◌}
 use mathlib.Core.Option.{none, some}
 use lib.Dec.{leb, ltb, eqb}
 use lib.ListN.{length, drop}
-use lib.IntN.{ℤ}
 use borrow.Author.Tests.{le-leb, lt-leb}
 use Rattle.numbers.specs.declared.decimals.DecimalRead.{DecimalRead}
 use Rattle.numbers.specs.declared.decimals.DecimalRead.TheVariants.{Nothing}
@@ -20,7 +19,7 @@ use Rattle.numbers.specs.Grammar.{fixed-text}
 use Rattle.numbers.specs.Whole.{signed, minus}
 use Rattle.numbers.specs.Decimal.{is_e, decimal, decimal_read}
 use Rattle.numbers.specs.Billionths.{billionths, billionths_read}
-use Rattle.numbers.specs.Parts.{Found, found, over, run, made, after_power, after_digits, are_few, ending, after_whole}
+use Rattle.numbers.specs.Parts.{Found, found, over, run, after_power, after_digits, are_few, ending, after_whole}
 use Rattle.numbers.proofs.Texts.{dotted, powered}
 use Rattle.numbers.proofs.FloatText.{text, Shaped, Shape}
 use Rattle.numbers.proofs.FloatReading.{reader, reader-sign, short, long, reader_cases, reads, read_below, read_plain}

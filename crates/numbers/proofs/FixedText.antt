@@ -1,5 +1,5 @@
 -- The shape that a step asks for, on a text by its parts, and what it is in billionths.
-use Prim.Native.Nat.{ℕ, ◌+◌, ◌-◌, ◌*◌, ◌^◌, ◌≤◌, ◌<◌}
+use Prim.Native.Nat.{ℕ, ◌-◌, ◌*◌, ◌^◌, ◌≤◌}
 use native.Mathlib.Omega.{arith}
 use mathlib.Core.Path.{◌≡◌, refl, sym, ap, ◌∙◌}
 use mathlib.Core.List.{List, [], ◌∷◌, ◌++◌}
@@ -18,7 +18,7 @@ use Rattle.numbers.specs.Grammar.{fixed-text}
 use Rattle.numbers.specs.Whole.{signed}
 use Rattle.numbers.specs.Decimal.{after, is_e, significant, fraction}
 use Rattle.numbers.specs.Billionths.{in_billionths, billionths}
-use Rattle.numbers.specs.Parts.{all_digits, are_few}
+use Rattle.numbers.specs.Parts.{are_few}
 use Rattle.numbers.proofs.Texts.{sign, sign-front, front-sign, one-front, front-one, dotted, dot-few, few-dot, powered, no-digits}
 use Rattle.numbers.proofs.Signs.{minus-sign}
 use Rattle.numbers.proofs.FloatText.{text, Shaped, tail, starts, significant_is, fraction_is, after_is}

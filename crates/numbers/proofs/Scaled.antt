@@ -2,15 +2,15 @@
 use Prim.Native.Nat.{ℕ, zero, suc, ◌+◌, ◌-◌, ◌*◌, ◌^◌, ◌≤◌, ◌<◌}
 use native.Mathlib.Omega.{arith}
 use native.Mathlib.Nat.{mul_assoc, mul_comm, one-mul, mul-one, pow-suc, pow-succ', pow-le-pow_right, mul-le-mul_right, add-mul}
-use mathlib.Core.Path.{◌≡◌, refl, sym, ap, subst, ◌∙◌}
+use mathlib.Core.Path.{◌≡◌, refl, sym, ap, ◌∙◌}
 use mathlib.Core.Logic.{◌↔◌}
 use mathlib.Core.List.{List, [], ◌∷◌, ◌++◌}
-use mathlib.Core.Bool.{Bool, true, false, cond, ◌&&◌, and-true}
+use mathlib.Core.Bool.{Bool, true, false, cond, and-true}
 use mathlib.Core.Option.{none, some}
 use lib.Dec.{leb, lit<}
 use lib.Pow.{pow-add}
 use lib.ListN.{length, get_or, length-append}
-use lib.IntN.{ℤ, pos, neg_ℤ, sub_ℕ, ◌+ℤ◌, ◌-ℤ◌, ◌*ℤ◌}
+use lib.IntN.{ℤ, pos, sub_ℕ, ◌+ℤ◌, ◌-ℤ◌}
 use lib.Signed.{le_z}
 use mir.Syntax.{w64}
 use mir.Val.{Fits}
@@ -20,14 +20,13 @@ use Rattle.abnf.specs.Accepts.{accepts}
 use Rattle.abnf.proofs.Accepts.{word-accepts}
 use Rattle.abnf.proofs.Steps.{both}
 use Rattle.numbers.specs.declared.decimals.Decimal.{Decimal}
-use Rattle.numbers.specs.declared.decimals.DecimalRead.{DecimalRead}
-use Rattle.numbers.specs.declared.decimals.DecimalRead.TheVariants.{Exact, Nothing}
+use Rattle.numbers.specs.declared.decimals.DecimalRead.TheVariants.{Exact}
 use Rattle.numbers.specs.declared.integers.IntegerRead.TheVariants.{Value}
-use Rattle.numbers.specs.Digits.{is_digit, numeral, number}
+use Rattle.numbers.specs.Digits.{numeral, number}
 use Rattle.numbers.specs.Grammar.{float-text, fixed-text}
-use Rattle.numbers.specs.Whole.{signed, stands, between}
+use Rattle.numbers.specs.Whole.{signed}
 use Rattle.numbers.specs.Integer.{integer_read}
-use Rattle.numbers.specs.Decimal.{Scientific, significant, fraction, scientific, is_small, decimal, exact, decimal_read}
+use Rattle.numbers.specs.Decimal.{Scientific, scientific, is_small, decimal, exact}
 use Rattle.numbers.specs.Ratio.{Ratio, scaled, ratio, le_q, SameQ}
 use Rattle.numbers.specs.Billionths.{in_billionths, billionths, billionths_read}
 use Rattle.numbers.specs.Parts.{all_digits}
@@ -36,7 +35,7 @@ use Rattle.numbers.proofs.Acceptance.{word_value}
 use Rattle.numbers.proofs.Order.{tens, AsRatio, as-ratio, order, signed_mul}
 use Rattle.numbers.proofs.Signs.{stands-minus, stands-plus}
 use Rattle.numbers.proofs.Texts.{digit_is, cons-digits, uncons-digits}
-use Rattle.numbers.proofs.FloatText.{text, decimal_is}
+use Rattle.numbers.proofs.FloatText.{decimal_is}
 use Rattle.numbers.proofs.FixedText.{Fixed, accepted_fixed, in-billionths_is}
 
 digits-both : (l r : List ℕ) → all_digits l ≡ true → all_digits r ≡ true → all_digits (l ++ r) ≡ true

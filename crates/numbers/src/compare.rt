@@ -6,7 +6,7 @@ ghost use Rattle.numbers.specs.Ratio.{ratio, le_q, not_less, not_more, decimal_i
 use crate::decimals::Decimal;
 
 // A bound of a range, or none.
-#[derive(Drop)]
+#[derive(Clone, Copy)]
 pub enum DecimalBound {
     At(Decimal),
     Open,

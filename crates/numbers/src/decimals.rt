@@ -7,7 +7,7 @@ ghost use Rattle.numbers.specs.Parts.{run, meant, Kept, made, after_power, after
 use crate::digits::{has_dot, has_minus, is_e, wide};
 
 // mantissa * 10^(exponent - 300), below zero if `negative`.
-#[derive(Drop)]
+#[derive(Clone, Copy)]
 pub struct Decimal {
     pub negative: bool,
     pub mantissa: u64,
@@ -15,14 +15,14 @@ pub struct Decimal {
 }
 
 // `fixed`: the text has no exponent, and at most nine digits before a dot and nine behind it.
-#[derive(Drop)]
+#[derive(Clone, Copy)]
 pub enum DecimalRead {
     Exact { value: Decimal, fixed: bool },
     Nothing,
 }
 
 // A run of digits: the number that they write, how many they are, and the index past them.
-#[derive(Drop)]
+#[derive(Clone, Copy)]
 enum Run {
     Digits { value: u64, count: u64, at: usize },
     TooMany,

@@ -7,14 +7,14 @@ ghost use Rattle.numbers.specs.Parts.{natural};
 use crate::digits::{has_minus, wide};
 
 // `Value(n)` stands for n - 2^63.
-#[derive(Drop)]
+#[derive(Clone, Copy)]
 pub enum IntegerRead {
     Value(u64),
     Nothing,
 }
 
 // A whole number of at most 2^63, or none.
-#[derive(Drop)]
+#[derive(Clone, Copy)]
 enum Natural {
     Number(u64),
     NotOne,

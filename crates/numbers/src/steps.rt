@@ -6,14 +6,14 @@ ghost use Rattle.numbers.specs.Step.{rounded, not_below, not_above, in_bounds, b
 ghost use Rattle.numbers.specs.Parts.{Past};
 
 // A bound of a range, or none.
-#[derive(Drop)]
+#[derive(Clone, Copy)]
 pub enum Bound {
     At(u64),
     Open,
 }
 
 // A number to add and a number to take away.
-#[derive(Drop)]
+#[derive(Clone, Copy)]
 struct Move {
     add: u64,
     sub: u64,

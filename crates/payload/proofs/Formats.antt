@@ -2,8 +2,8 @@
 use Prim.Native.Nat.{ℕ, ◌≤◌}
 use native.Mathlib.Omega.{arith}
 use mathlib.Core.Path.{◌≡◌, refl, sym, ap, ◌∙◌}
-use mathlib.Core.List.{List, [], ◌∷◌}
-use mathlib.Core.Bool.{Bool, true, false, ◌&&◌, cond}
+use mathlib.Core.List.{List}
+use mathlib.Core.Bool.{Bool, true, ◌&&◌, cond}
 use mathlib.Core.Option.{Option, none, some}
 use lib.ListN.{length}
 use lib.Dec.{leb}
@@ -11,7 +11,6 @@ use borrow.Author.Tests.{leb-true}
 use Rattle.abnf.specs.Accepts.{is_empty, again, starts, accepts}
 use Rattle.text.specs.Bytes.{eq_bytes}
 use Rattle.text.specs.Split.{split, onto}
-use Rattle.text.specs.Ascii.{ascii}
 use Rattle.text.proofs.Bytes.{both, and_both}
 use Rattle.entries.specs.Entries.{is_in, none_empty, no_repeats, is_list}
 use Rattle.ranges.specs.Ranges.{each_read, range_of, integer_range, float_range}

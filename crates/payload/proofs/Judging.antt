@@ -1,17 +1,17 @@
 -- Choices one after another, and the nine datatypes by their codes.
-use Prim.Native.Nat.{ℕ, zero, suc, ◌≤◌}
+use Prim.Native.Nat.{ℕ, zero, suc}
 use native.Mathlib.Omega.{arith}
 use mathlib.Core.Path.{◌≡◌, refl, sym, ap, ◌∙◌}
 use mathlib.Core.List.{List, [], ◌∷◌}
 use mathlib.Core.Bool.{Bool, true, false, cond, and-false}
 use mathlib.Core.Option.{Option, none, some}
 use lib.Dec.{eqb, leb}
-use lib.ListN.{length, get_or, get_or-eq_default}
+use lib.ListN.{length}
 use Rattle.payload.specs.declared.Datatype.{Datatype}
 use Rattle.payload.specs.declared.Datatype.TheVariants.{String, Integer, Float, Boolean, Enum, Color, Datetime, Duration, Json}
 use Rattle.payload.specs.declared.Format.{Format}
 use Rattle.payload.specs.declared.Format.TheVariants.{Bad, AsGiven}
-use Rattle.payload.specs.Datatypes.{datatypes, code_of, datatype_at, name_of, datatype_named}
+use Rattle.payload.specs.Datatypes.{code_of, datatype_at, name_of, datatype_named}
 use Rattle.payload.specs.Formats.{is_format, kept_of, when_missing, kept_format, kept_bytes, given_format}
 use Rattle.text.specs.Bytes.{eq_bytes}
 use Rattle.text.proofs.Bytes.{both}

@@ -1,19 +1,19 @@
 -- The parts of a colour.
-use Prim.Native.Nat.{ℕ, zero, suc, ◌+◌, ◌≤◌, ◌<◌}
+use Prim.Native.Nat.{ℕ, ◌+◌, ◌<◌}
 use native.Mathlib.Omega.{arith}
-use mathlib.Core.Path.{◌≡◌, refl, sym, ap, ◌∙◌}
+use mathlib.Core.Path.{◌≡◌, sym, ap, ◌∙◌}
 use mathlib.Core.List.{List, [], ◌∷◌}
-use mathlib.Core.Bool.{Bool, true, false, ◌&&◌, cond}
-use lib.Dec.{leb, ltb}
+use mathlib.Core.Bool.{Bool, true, false, ◌&&◌}
+use lib.Dec.{ltb}
 use lib.ListN.{length, drop}
 use borrow.Author.Tests.{le-leb, lt-leb, le-ltb, lt-ltb, ltb-true, ltb-false}
 use Rattle.text.specs.Bytes.{slice}
-use Rattle.text.specs.Split.{part_at, split}
+use Rattle.text.specs.Split.{part_at}
 use Rattle.text.specs.declared.Part.{Part}
 use Rattle.text.specs.declared.Part.TheVariants.{Found, Nothing}
 use Rattle.text.proofs.Split.{IsPart, is_part, is_none, split-first}
 use Rattle.entries.specs.Entries.{entries_of, is_in}
-use Rattle.entries.specs.Parts.{EndsAt, from}
+use Rattle.entries.specs.Parts.{from}
 use Rattle.entries.proofs.From.{from_all, from-none, from_some}
 use Rattle.ranges.specs.Ranges.{is_float_up_to}
 use Rattle.abnf.proofs.Steps.{both}

@@ -1,5 +1,5 @@
 -- Paper 01, "The description": "`datatype` (required, one of the nine above)".
-use Rattle.std.specs.Prelude.{ℕ, List, [], ◌∷◌, Bool, true, false, cond, get_or}
+use Rattle.std.specs.Prelude.{ℕ, List, [], ◌∷◌, cond, get_or}
 use Rattle.std.proofs.Math.Option.{Option, none, some}
 use Rattle.text.specs.Bytes.{eq_bytes}
 use Rattle.payload.specs.declared.Datatype.{Datatype}

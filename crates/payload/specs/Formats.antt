@@ -1,5 +1,5 @@
 -- Paper 01, "Payloads of properties": formats.
-use Rattle.std.specs.Prelude.{ℕ, List, [], ◌∷◌, Bool, true, false, ◌&&◌, cond, leb, eqb, length}
+use Rattle.std.specs.Prelude.{ℕ, List, [], Bool, true, ◌&&◌, cond, leb, eqb, length}
 use Rattle.std.proofs.Math.Option.{Option, none, some}
 use Rattle.entries.specs.Entries.{entries_of, is_list, all_in}
 use Rattle.ranges.specs.Ranges.{integer_range, float_range, is_some}

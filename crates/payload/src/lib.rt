@@ -20,7 +20,7 @@ pub const FORMAT_MOST: usize = 64;
 
 pub const PAYLOAD_MOST: usize = 48;
 
-#[derive(Drop)]
+#[derive(Clone, Copy)]
 pub enum Datatype {
     String,
     Integer,
@@ -33,14 +33,14 @@ pub enum Datatype {
     Json,
 }
 
-#[derive(Drop)]
+#[derive(Clone, Copy)]
 pub enum Named {
     Known(Datatype),
     Unknown,
 }
 
 // What is kept of a format: nothing as it is not valid, its own bytes, `:`, `false,true`, or the empty string.
-#[derive(Drop)]
+#[derive(Clone, Copy)]
 pub enum Format {
     Bad,
     AsGiven,

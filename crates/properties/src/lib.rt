@@ -30,7 +30,7 @@ use payload::{Datatype, Format, Named};
 pub const MOST: usize = 24;
 
 // A property: the places of its node's ID and its own, strings in the text, and what it declares.
-#[derive(Drop)]
+#[derive(Clone, Copy)]
 pub struct Entry {
     pub node: usize,
     pub id: usize,
@@ -42,27 +42,27 @@ pub struct Entry {
 }
 
 // The first `n` of `items`.
-#[derive(Drop)]
+#[derive(Clone, Copy)]
 pub struct Entries {
     pub n: usize,
     pub items: [Entry; MOST],
 }
 
 // A property's object judged: what is told of its faults, and if there is none, what it declares.
-#[derive(Drop)]
+#[derive(Clone, Copy)]
 pub struct Judged {
     pub told: Told,
     pub entry: Entry,
 }
 
 // A property's datatype, as far as it is named, and its format, as far as it is kept, with what is told of their faults.
-#[derive(Drop)]
+#[derive(Clone, Copy)]
 pub struct TypeRead {
     pub told: Told,
     pub named: Named,
 }
 
-#[derive(Drop)]
+#[derive(Clone, Copy)]
 pub struct FormatRead {
     pub told: Told,
     pub kept: Format,

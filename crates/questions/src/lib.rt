@@ -22,19 +22,19 @@ use payload::Datatype;
 use rules::{DeviceState, LaneKind};
 use text::Place;
 
-#[derive(Drop)]
+#[derive(Clone, Copy)]
 pub enum Number {
     Refused(u8),
     Is(u32),
 }
 
-#[derive(Drop)]
+#[derive(Clone, Copy)]
 pub enum Id {
     Refused(u8),
     At { place: Place },
 }
 
-#[derive(Drop)]
+#[derive(Clone, Copy)]
 pub enum States {
     Refused(u8),
     Are {
@@ -45,7 +45,7 @@ pub enum States {
 }
 
 // A root or a parent.
-#[derive(Drop)]
+#[derive(Clone, Copy)]
 pub enum Relative {
     Refused(u8),
     Nothing,
@@ -53,14 +53,14 @@ pub enum Relative {
 }
 
 // A version's number is shown plus 2^63.
-#[derive(Drop)]
+#[derive(Clone, Copy)]
 pub enum Version {
     Refused(u8),
     Nothing,
     Is(u64),
 }
 
-#[derive(Drop)]
+#[derive(Clone, Copy)]
 pub enum Property {
     Refused(u8),
     Is {
@@ -73,14 +73,14 @@ pub enum Property {
     },
 }
 
-#[derive(Drop)]
+#[derive(Clone, Copy)]
 pub enum Held {
     Refused(u8),
     Empty,
     Holds { time: u64, payload: Place },
 }
 
-#[derive(Drop)]
+#[derive(Clone, Copy)]
 pub enum Time {
     Refused(u8),
     Never,
@@ -88,7 +88,7 @@ pub enum Time {
 }
 
 // A device that is sought by its ID: a refusal, or where its room starts.
-#[derive(Drop)]
+#[derive(Clone, Copy)]
 enum Sought {
     Refused(u8),
     Room { start: usize },

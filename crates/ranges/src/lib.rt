@@ -20,7 +20,7 @@ use numbers::steps::Bound;
 use text::Part;
 
 // Where the fields end: `min` at the first place, `max` at the second.
-#[derive(Drop)]
+#[derive(Clone, Copy)]
 pub enum Cuts {
     Two(usize, usize),
     Three(usize, usize),
@@ -28,27 +28,27 @@ pub enum Cuts {
 }
 
 // Whole numbers: integers, or floats in billionths.
-#[derive(Drop)]
+#[derive(Clone, Copy)]
 pub enum WholeLimit {
     Limit(Bound),
     Bad,
 }
 
-#[derive(Drop)]
+#[derive(Clone, Copy)]
 pub enum FloatLimit {
     Limit(DecimalBound),
     Bad,
 }
 
 // A step of 0 is none.
-#[derive(Drop)]
+#[derive(Clone, Copy)]
 pub enum WholeRange {
     Is { min: Bound, max: Bound, step: u64 },
     Bad,
 }
 
 // Exact decimals, or with a step whole billionths.
-#[derive(Drop)]
+#[derive(Clone, Copy)]
 pub enum FloatRange {
     Exact {
         min: DecimalBound,

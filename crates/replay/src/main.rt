@@ -2,6 +2,8 @@
 #![tactic(auto)]
 
 use lines::Input;
+use std::io;
+use std::io::Write;
 use trace::{Checked, Reading};
 
 mod show;
@@ -11,46 +13,48 @@ fn bytes(file: &[u8], from: usize, n: usize) -> &[u8] {
     text::slice(text::slice(file, from, file.len()), 0, n)
 }
 
-fn send(mem: &mut [u8], file: &[u8], i: usize) {
+fn send(to: &mut impl Write, mem: &mut [u8], file: &[u8], i: usize) -> io::Result<()> {
     match trace::read(file, i) {
-        Reading::Refused(n) => show::refused(n),
+        Reading::Refused(n) => show::refused(to, n),
         Reading::Found(e) => {
             let topic = bytes(file, e.topic, e.tlen);
             let payload = bytes(file, e.payload, e.plen);
             let o = table::message(mem, e.time, topic, e.retained, payload);
-            show::event(i, e.time, o);
+            show::event(to, i, e.time, o)
         }
     }
 }
 
-fn send_all(mem: &mut [u8], file: &[u8], n: usize) {
+fn send_all(to: &mut impl Write, mem: &mut [u8], file: &[u8], n: usize) -> io::Result<()> {
     for i in 0..n {
-        send(mem, file, i);
+        send(to, mem, file, i)?;
     }
+    Ok(())
 }
 
 // Opens the table `homie` for 4 devices and 3 steps back, and sends it the n events.
-fn replay(file: &[u8], n: usize) {
+fn replay(to: &mut impl Write, file: &[u8], n: usize) -> io::Result<()> {
     let mut mem = [0u8; 65536];
     table::open(&mut mem, b"homie", 4, 3);
-    show::events(n);
-    send_all(&mut mem, file, n);
-    show::devices(&mem);
-    show::steps(&mem);
+    show::events(to, n)?;
+    send_all(to, &mut mem, file, n)?;
+    show::devices(to, &mem)?;
+    show::steps(to, &mem)
 }
 
-fn check(file: &[u8]) {
+fn check(to: &mut impl Write, file: &[u8]) -> io::Result<()> {
     match trace::check(file) {
-        Checked::Refused(n) => show::refused(n),
-        Checked::Count(n) => replay(file, n),
+        Checked::Refused(n) => show::refused(to, n),
+        Checked::Count(n) => replay(to, file, n),
     }
 }
 
 // Longer input than 65,536 bytes counts as 1.
-fn main() {
+fn main(rt: HostRuntime) -> io::Result<()> {
     let mut input = [0u8; 65537];
-    match lines::read_input(&mut input) {
-        Input::Bytes(n) => check(text::slice(&input, 0, n)),
-        Input::TooLong => show::refused(1),
+    let mut to = rt.stdout();
+    match lines::read_input(&mut rt.stdin(), &mut input)? {
+        Input::Bytes(n) => check(&mut to, text::slice(&input, 0, n)),
+        Input::TooLong => show::refused(&mut to, 1),
     }
 }

@@ -1,6 +1,8 @@
 // Lines of the report, each printed as it is made.
 use questions::{Held, Id, Number, Property, States};
 use rules::LaneKind;
+use std::io;
+use std::io::Write;
 use table::{Offer, Outcome};
 use text::Place;
 
@@ -8,27 +10,28 @@ use text::Place;
 const PROPERTIES_MOST: usize = device::PROPERTIES_MOST as usize;
 
 // Ends the line at a place, and prints it.
-fn finish(out: &mut [u8], at: usize) {
+fn finish(to: &mut impl Write, out: &mut [u8], at: usize) -> io::Result<()> {
     let end = lines::out::put(out, at, b"\n");
-    lines::print(out, end);
+    lines::print(to, out, end)?;
+    Ok(())
 }
 
-pub(crate) fn refused(n: u8) {
+pub(crate) fn refused(to: &mut impl Write, n: u8) -> io::Result<()> {
     let mut out = [0u8; 32];
     let at = words::refused(&mut out, n);
-    finish(&mut out, at);
+    finish(to, &mut out, at)
 }
 
 // A name and a number.
-fn number(name: &[u8], n: u64) {
+fn number(to: &mut impl Write, name: &[u8], n: u64) -> io::Result<()> {
     let mut out = [0u8; 32];
     let at = lines::out::put(&mut out, 0, name);
     let end = lines::number::write(&mut out, at, n);
-    finish(&mut out, end);
+    finish(to, &mut out, end)
 }
 
-pub(crate) fn events(n: usize) {
-    number(b"events ", n as u64);
+pub(crate) fn events(to: &mut impl Write, n: usize) -> io::Result<()> {
+    number(to, b"events ", n as u64)
 }
 
 // The answer to a message, 0 where it is taken.
@@ -40,14 +43,14 @@ fn answer(o: Outcome) -> u64 {
     }
 }
 
-pub(crate) fn event(i: usize, time: u64, o: Outcome) {
+pub(crate) fn event(to: &mut impl Write, i: usize, time: u64, o: Outcome) -> io::Result<()> {
     let mut out = [0u8; 64];
     let first = lines::number::write(&mut out, 0, i as u64);
     let second = lines::out::put(&mut out, first, b" ");
     let third = lines::number::write(&mut out, second, time);
     let fourth = lines::out::put(&mut out, third, b" ");
     let end = lines::number::write(&mut out, fourth, answer(o));
-    finish(&mut out, end);
+    finish(to, &mut out, end)
 }
 
 // A space, then what a lane holds in hex, or `-`.
@@ -75,7 +78,7 @@ fn bytes(mem: &[u8], p: Place) -> &[u8] {
     text::slice(mem, p.start, p.end)
 }
 
-fn property(mem: &[u8], id: &[u8], n: Place, p: Place) {
+fn property(to: &mut impl Write, mem: &[u8], id: &[u8], n: Place, p: Place) -> io::Result<()> {
     let mut out = [0u8; 512];
     let node = bytes(mem, n);
     let name = bytes(mem, p);
@@ -86,13 +89,13 @@ fn property(mem: &[u8], id: &[u8], n: Place, p: Place) {
     let fifth = lines::out::put(&mut out, fourth, b" ");
     let sixth = lines::out::put(&mut out, fifth, name);
     let end = lanes(&mut out, sixth, mem, id, node, name);
-    finish(&mut out, end);
+    finish(to, &mut out, end)
 }
 
-fn properties(mem: &[u8], id: &[u8]) {
+fn properties(to: &mut impl Write, mem: &[u8], id: &[u8]) -> io::Result<()> {
     for i in 0..PROPERTIES_MOST {
         match questions::property_of(mem, id, i) {
-            Property::Refused(_) => return,
+            Property::Refused(_) => return Ok(()),
             Property::Is {
                 node,
                 id: p,
@@ -100,14 +103,15 @@ fn properties(mem: &[u8], id: &[u8]) {
                 format: _,
                 settable: _,
                 retained: _,
-            } => property(mem, id, node, p),
+            } => property(to, mem, id, node, p)?,
         }
     }
+    Ok(())
 }
 
-fn states(mem: &[u8], id: &[u8]) {
+fn states(to: &mut impl Write, mem: &[u8], id: &[u8]) -> io::Result<()> {
     match questions::states_of(mem, id) {
-        States::Refused(_) => {}
+        States::Refused(_) => Ok(()),
         States::Are {
             own,
             effective,
@@ -120,37 +124,38 @@ fn states(mem: &[u8], id: &[u8]) {
             let fourth = words::state(&mut out, third, own);
             let fifth = lines::out::put(&mut out, fourth, b" ");
             let end = words::state(&mut out, fifth, effective);
-            finish(&mut out, end);
+            finish(to, &mut out, end)
         }
     }
 }
 
-fn device(mem: &[u8], i: usize) {
+fn device(to: &mut impl Write, mem: &[u8], i: usize) -> io::Result<()> {
     match questions::nth(mem, i) {
-        Id::Refused(_) => {}
+        Id::Refused(_) => Ok(()),
         Id::At { place } => {
             let id = bytes(mem, place);
-            states(mem, id);
-            properties(mem, id);
+            states(to, mem, id)?;
+            properties(to, mem, id)
         }
     }
 }
 
 // Each device, and its properties after it.
-pub(crate) fn devices(mem: &[u8]) {
+pub(crate) fn devices(to: &mut impl Write, mem: &[u8]) -> io::Result<()> {
     match questions::count(mem) {
-        Number::Refused(_) => {}
+        Number::Refused(_) => Ok(()),
         Number::Is(n) => {
             for i in 0..n {
-                device(mem, i as usize);
+                device(to, mem, i as usize)?;
             }
+            Ok(())
         }
     }
 }
 
-pub(crate) fn steps(mem: &[u8]) {
+pub(crate) fn steps(to: &mut impl Write, mem: &[u8]) -> io::Result<()> {
     match table::steps(mem) {
-        Offer::Refused(_) => {}
-        Offer::Steps(n) => number(b"steps ", n as u64),
+        Offer::Refused(_) => Ok(()),
+        Offer::Steps(n) => number(to, b"steps ", n as u64),
     }
 }

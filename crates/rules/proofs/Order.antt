@@ -49,6 +49,10 @@ absent-above id (v ∷ vs) h =
     unequal true false false before p = refl
     unequal false true false equal p = absurd (false≢true p)
     unequal false false true after p = refl
+    unequal false false false x p = elim x [ ]
+    unequal false true true x p = elim x [ ]
+    unequal true false true x p = elim x [ ]
+    unequal true true c x p = elim x [ ]
 
 ascends-tail : (v : Device) (vs : List Device) → ascends (v ∷ vs) ≡ true → ascends vs ≡ true
 unfolding ascends ascends_from
@@ -134,6 +138,10 @@ module _ (w : Device) where
       go true false false before p q = refl
       go false true false equal p q = sym p
       go false false true after p q = sym q
+      go false false false x p q = elim x [ ]
+      go false true true x p q = elim x [ ]
+      go true false true x p q = elim x [ ]
+      go true true c x p q = elim x [ ]
 
   insert_from : (a : List ℕ) (ds : List Device) (n : Refusal) → less_bytes a w.id ≡ true → find w.id ds ≡ refused n → ascends_from a ds ≡ true → ascends_from a (insert w ds) ≡ true
   unfolding insert ascends_from

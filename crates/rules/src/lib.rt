@@ -4,7 +4,7 @@
 ghost use Rattle.std.specs.Prelude.{◌≡◌};
 ghost use Rattle.rules.specs.States.{state_worded, worded, code_of, state_at};
 
-#[derive(Drop)]
+#[derive(Clone, Copy)]
 pub enum DeviceState {
     Init,
     Ready,
@@ -13,13 +13,13 @@ pub enum DeviceState {
     Lost,
 }
 
-#[derive(Drop)]
+#[derive(Clone, Copy)]
 pub enum Worded {
     State(DeviceState),
     NoState,
 }
 
-#[derive(Drop)]
+#[derive(Clone, Copy)]
 pub enum LaneKind {
     Value,
     Target,

@@ -12,7 +12,7 @@ use verdict::Verdict;
 use writing::{create, describe, fill, keep, remove, set_state, undescribe};
 
 // Taken, or the refusal's number; of a description that is not valid, the number and the byte place.
-#[derive(Drop)]
+#[derive(Clone, Copy)]
 pub enum Outcome {
     Taken,
     Refused(u8),
@@ -20,7 +20,7 @@ pub enum Outcome {
 }
 
 // The steps on offer, or the refusal's number.
-#[derive(Drop)]
+#[derive(Clone, Copy)]
 pub enum Offer {
     Steps(u8),
     Refused(u8),

@@ -1,5 +1,5 @@
 -- What private functions compute: tests of several bytes at once, and the UTF-8 check.
-use Rattle.std.specs.Prelude.{ℕ, ◌+◌, ◌≤◌, ◌<◌, ◌≡◌, List, [], ◌∷◌, Bool, true, false, eqb, length, drop, get_or}
+use Rattle.std.specs.Prelude.{ℕ, ◌≤◌, ◌<◌, ◌≡◌, List, [], ◌∷◌, Bool, true, false, eqb, length, drop, get_or}
 use Rattle.text.specs.Ids.{id_byte}
 use Rattle.text.specs.Utf8Place.{Due, due, ready, never, low, high, first, next}
 use Rattle.text.specs.declared.CharacterEnd.{CharacterEnd}

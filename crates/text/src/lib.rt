@@ -55,7 +55,7 @@ pub fn precedes(a: &[u8], b: &[u8]) -> bool
 }
 
 // The bytes `start..end` of a byte string.
-#[derive(Drop)]
+#[derive(Clone, Copy)]
 pub struct Place {
     pub start: usize,
     pub end: usize,
@@ -78,7 +78,7 @@ pub fn slice(s: &[u8], a: usize, e: usize) -> &[u8]
 }
 
 // A part between separators: its bytes are `start..end`, and the next part starts at `next`.
-#[derive(Drop)]
+#[derive(Clone, Copy)]
 pub enum Part {
     Found {
         start: usize,
@@ -114,14 +114,14 @@ pub fn next_part(s: &[u8], at: usize, sep: u8) -> Part
 }
 
 // An ID by value, for "The table is opened for one domain, an ID": its bytes are the first `len`, the others are zero.
-#[derive(Drop)]
+#[derive(Clone, Copy)]
 pub struct Id {
     pub bytes: [u8; Id::MAX],
     pub len: usize,
 }
 
 // What reading an ID answers; where there is none, `id` is blank.
-#[derive(Drop)]
+#[derive(Clone, Copy)]
 pub struct IdRead {
     pub ok: bool,
     pub id: Id,
@@ -381,7 +381,7 @@ fn byte_in(s: &[u8], i: usize, lo: u8, hi: u8) -> bool
 }
 
 // Where a character of several bytes ends.
-#[derive(Drop)]
+#[derive(Clone, Copy)]
 enum CharacterEnd {
     At(usize),
     Broken,

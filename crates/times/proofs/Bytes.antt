@@ -1,10 +1,10 @@
 -- Bytes and digits at a place.
-use Prim.Native.Nat.{ℕ, zero, suc, ◌+◌, ◌*◌, ◌-◌, ◌%◌, ◌<◌, ◌≤◌}
+use Prim.Native.Nat.{ℕ, zero, suc, ◌+◌, ◌*◌, ◌-◌, ◌<◌, ◌≤◌}
 use native.Mathlib.Numerals.{add-one}
 use native.Mathlib.Omega.{arith}
 use mathlib.Core.Path.{◌≡◌, refl, sym, ap, ◌∙◌}
 use mathlib.Core.List.{List, [], ◌∷◌}
-use mathlib.Core.Bool.{Bool, true, false, not, ◌&&◌, ◌||◌, cond, and-false}
+use mathlib.Core.Bool.{Bool, true, false, cond, and-false}
 use lib.ListN.{length, drop, get_or, drop_of_length-le, get_or-eq_default}
 use lib.Seq.{drop-cons}
 use lib.Dec.{leb, ltb, eqb}
@@ -12,7 +12,6 @@ use borrow.Author.Tests.{eq-eqb, ne_eqb, ltb-true, ltb-false}
 use Rattle.abnf.specs.Accepts.{in_range}
 use Rattle.abnf.proofs.Steps.{both, range-true, in_range_lem, above_range, below_range}
 use Rattle.times.specs.Parts.{byte_at, digit_of, pair_of, digits}
-use Rattle.times.specs.Datetime.{is_leap}
 
 pub byte-here : (s : List ℕ) (i : ℕ) → i < length s → get_or s i 0 ≡ byte_at s i
 byte-here [] i h = absurd (omega arith)

@@ -5,19 +5,19 @@ use native.Mathlib.Omega.{arith}
 use mathlib.Core.Path.{◌≡◌, refl, sym, ap, ◌∙◌}
 use mathlib.Core.List.{List, ◌∷◌}
 use mathlib.Core.Bool.{Bool, true, false, not, ◌&&◌, ◌||◌, cond, and-false, and-true, and_assoc, and_comm, or-false, or-true, false≢true}
-use lib.ListN.{length, drop, take, drop_of_length-le}
+use lib.ListN.{length, drop, take}
 use lib.Seq.{drop-cons}
 use lib.Dec.{leb, ltb, eqb, lit<}
-use borrow.Author.Tests.{leb-true, leb-false, le-leb, lt-leb, eq-eqb, ne_eqb, eqb-true, eqb-false, ltb-true, ltb-false}
-use Rattle.abnf.specs.Abnf.{Abnf, ◌–◌, ε, ◌·◌, ◌/◌, x, opt, times, up_to, repeat}
+use borrow.Author.Tests.{leb-true, le-leb, lt-leb, ne_eqb, eqb-true, ltb-true, ltb-false}
+use Rattle.abnf.specs.Abnf.{◌·◌, ◌/◌, x, opt, times, repeat}
 use Rattle.abnf.specs.Accepts.{in_range, is_empty, starts, accepts}
 use Rattle.abnf.proofs.Accepts.{and_both}
-use Rattle.abnf.proofs.Steps.{both, same_test, range-true, in_range_lem, starts-byte, starts-x, starts_either, starts-opt, empty_at}
-use Rattle.times.specs.Datetime.{DIGIT, hour, sixtieth, date, clock, fraction, zone, datetime, number_from, month_length, is_date, is_datetime}
-use Rattle.times.specs.Parts.{byte_at, digit_of, pair_of, pair_at, digits, is_clock, is_sign, date_at, time_at, zone_at, ending_at}
+use Rattle.abnf.proofs.Steps.{both, range-true, starts-x, starts_either, starts-opt, empty_at}
+use Rattle.times.specs.Datetime.{DIGIT, sixtieth, date, clock, fraction, zone, number_from, month_length, is_date, is_datetime}
+use Rattle.times.specs.Parts.{byte_at, pair_at, digits, is_clock, is_sign, date_at, time_at, zone_at, ending_at}
 use Rattle.times.proofs.Bytes.{byte_past}
 use Rattle.times.proofs.Dates.{month-most}
-use Rattle.times.proofs.Grammar.{Digits, pair-digits, starts-hour, starts-sixtieth, starts-pair}
+use Rattle.times.proofs.Grammar.{pair-digits, starts-hour, starts-sixtieth, starts-pair}
 use Rattle.times.proofs.Runs.{starts-run}
 
 and_on : (t : Bool) {u v : Bool} → u ≡ v → (t && u) ≡ (t && v)

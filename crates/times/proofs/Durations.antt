@@ -1,18 +1,17 @@
 -- The code's three spans of a duration are the grammar.
-use Prim.Native.Nat.{ℕ, zero, suc, ◌+◌, ◌-◌, ◌<◌, ◌≤◌}
+use Prim.Native.Nat.{ℕ, ◌+◌, ◌<◌, ◌≤◌}
 use native.Mathlib.Omega.{arith}
 use mathlib.Core.Path.{◌≡◌, refl, sym, ap, ◌∙◌}
-use mathlib.Core.List.{List, [], ◌∷◌}
-use mathlib.Core.Bool.{Bool, true, false, not, ◌&&◌, ◌||◌, cond, and-false, or-false, or-true}
+use mathlib.Core.List.{List}
+use mathlib.Core.Bool.{Bool, true, false, not, ◌&&◌, ◌||◌, and-false, or-false}
 use lib.ListN.{length, drop}
 use lib.Dec.{leb, eqb, lit<}
-use borrow.Author.Tests.{leb-true, leb-false, le-leb, lt-leb, eq-eqb, ne_eqb, eqb-true}
-use Rattle.abnf.specs.Abnf.{Abnf, ◌–◌, ε, ◌·◌, ◌/◌, x, opt, repeat}
-use Rattle.abnf.specs.Accepts.{in_range, is_empty, starts, accepts}
+use borrow.Author.Tests.{leb-true, eq-eqb, ne_eqb, eqb-true}
+use Rattle.abnf.specs.Abnf.{◌·◌, ◌/◌, x, opt}
+use Rattle.abnf.specs.Accepts.{is_empty, starts}
 use Rattle.abnf.proofs.Accepts.{and_both}
 use Rattle.abnf.proofs.Steps.{both, range-true, below_range, starts-x, starts_either, starts-opt, empty_at}
-use Rattle.times.specs.Datetime.{DIGIT}
-use Rattle.times.specs.Duration.{amount, hours, minutes, seconds, duration, is_duration}
+use Rattle.times.specs.Duration.{amount, hours, minutes, seconds, is_duration}
 use Rattle.times.specs.Parts.{byte_at, digits, span_end}
 use Rattle.times.proofs.Bytes.{byte_past, digits-most}
 use Rattle.times.proofs.Chains.{none, some}

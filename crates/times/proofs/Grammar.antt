@@ -1,20 +1,18 @@
 -- The grammars of times at a place in a text.
-use Prim.Native.Nat.{ℕ, zero, suc, ◌+◌, ◌*◌, ◌-◌, ◌<◌, ◌≤◌}
-use native.Mathlib.Numerals.{add-one}
+use Prim.Native.Nat.{ℕ, ◌+◌, ◌*◌, ◌-◌, ◌<◌, ◌≤◌}
 use native.Mathlib.Omega.{arith}
-use mathlib.Core.Path.{◌≡◌, refl, sym, ap, ◌∙◌}
-use mathlib.Core.List.{List, [], ◌∷◌}
+use mathlib.Core.Path.{◌≡◌, sym, ap, ◌∙◌}
+use mathlib.Core.List.{List}
 use mathlib.Core.Bool.{Bool, true, false, not, ◌&&◌, ◌||◌, cond, and-false, and_assoc, or-false, false≢true}
-use lib.ListN.{length, drop, take, get_or}
-use lib.Dec.{leb, eqb, lit<}
-use borrow.Author.Tests.{leb-true, leb-false, le-leb, lt-leb, eq-eqb, ne_eqb, eqb-true}
-use Rattle.abnf.specs.Abnf.{Abnf, ◌–◌, ε, ◌·◌, ◌/◌, x, opt, times, up_to, repeat}
-use Rattle.abnf.specs.Accepts.{in_range, is_empty, starts}
+use lib.ListN.{drop}
+use lib.Dec.{leb, lit<}
+use borrow.Author.Tests.{leb-true, leb-false, le-leb}
+use Rattle.abnf.specs.Abnf.{◌–◌, ◌·◌, x}
+use Rattle.abnf.specs.Accepts.{in_range, starts}
 use Rattle.abnf.proofs.Accepts.{and_both}
-use Rattle.abnf.proofs.Steps.{both, same_test, range-true, in_range_lem, above_range, below_range, one_byte, starts-byte, starts-x, starts_either, starts-opt}
-use Rattle.times.specs.Datetime.{DIGIT, hour, sixtieth, clock}
-use Rattle.times.specs.Parts.{byte_at, digit_of, pair_of, pair_at, digits, is_clock}
-use Rattle.times.proofs.Bytes.{digit-test}
+use Rattle.abnf.proofs.Steps.{both, same_test, range-true, in_range_lem, above_range, starts-byte, starts_either}
+use Rattle.times.specs.Datetime.{DIGIT, hour, sixtieth}
+use Rattle.times.specs.Parts.{byte_at, pair_of, pair_at}
 
 -- what two digits write, seen from the bytes
 pub record Digits (a b n : ℕ) : Type 0 where

@@ -1,15 +1,14 @@
 -- A run of digits before what starts with none.
-use Prim.Native.Nat.{ℕ, zero, suc, ◌+◌, ◌-◌, ◌<◌, ◌≤◌}
+use Prim.Native.Nat.{ℕ, zero, suc, ◌-◌}
 use native.Mathlib.Omega.{arith}
-use mathlib.Core.Path.{◌≡◌, refl, sym, ap, ◌∙◌}
+use mathlib.Core.Path.{◌≡◌, refl, ap, ◌∙◌}
 use mathlib.Core.List.{List, [], ◌∷◌}
-use mathlib.Core.Bool.{Bool, true, false, not, ◌&&◌, ◌||◌, cond, or-false}
-use lib.ListN.{length, drop}
+use mathlib.Core.Bool.{Bool, true, false, not, ◌&&◌, cond}
+use lib.ListN.{drop}
 use lib.Dec.{eqb}
 use borrow.Author.Tests.{ne_eqb}
-use Rattle.abnf.specs.Abnf.{Abnf, ◌–◌, ε, ◌·◌, ◌/◌, opt, times, up_to, repeat}
-use Rattle.abnf.specs.Accepts.{in_range, is_empty, starts}
-use Rattle.abnf.proofs.Steps.{both, starts-opt}
+use Rattle.abnf.specs.Abnf.{◌·◌, times, up_to, repeat}
+use Rattle.abnf.specs.Accepts.{in_range, starts}
 use Rattle.times.specs.Datetime.{DIGIT}
 use Rattle.times.specs.Parts.{digits}
 

@@ -1,6 +1,6 @@
 -- What the crate promises: the tests hold exactly for the words of the grammars, datetimes of the calendar; months have the calendar's lengths.
 use Prim.Native.Nat.{ℕ}
-use mathlib.Core.Path.{◌≡◌, sym, ap, ◌∙◌}
+use mathlib.Core.Path.{◌≡◌, sym}
 use mathlib.Core.List.{List}
 use mathlib.Core.Bool.{Bool, true, ◌&&◌}
 use mathlib.Core.Logic.{◌↔◌}

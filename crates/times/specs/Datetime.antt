@@ -1,6 +1,6 @@
 -- Paper 01, "Payloads of properties": "datetime (our profile of ISO 8601)".
-use Rattle.std.specs.Prelude.{ℕ, zero, suc, ◌+◌, ◌*◌, ◌-◌, ◌%◌, List, [], ◌∷◌, Bool, true, false, not, ◌&&◌, ◌||◌, cond, take, drop, eqb, leb}
-use Rattle.abnf.specs.Abnf.{Abnf, ◌–◌, ε, ◌·◌, ◌/◌, x, opt, times, repeat}
+use Rattle.std.specs.Prelude.{ℕ, ◌+◌, ◌*◌, ◌-◌, ◌%◌, List, [], ◌∷◌, Bool, not, ◌&&◌, ◌||◌, cond, take, drop, eqb, leb}
+use Rattle.abnf.specs.Abnf.{Abnf, ◌–◌, ◌·◌, ◌/◌, x, opt, times, repeat}
 use Rattle.abnf.specs.Accepts.{accepts}
 
 abbrev pub DIGIT : Abnf ⊥

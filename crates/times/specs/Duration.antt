@@ -1,6 +1,6 @@
 -- Paper 01, "Payloads of properties": "duration: `PT`, then at least one of hours `H`, minutes `M`, seconds `S` in that order, 1 to 9 digits each".
-use Rattle.std.specs.Prelude.{ℕ, List, [], ◌∷◌, Bool}
-use Rattle.abnf.specs.Abnf.{Abnf, ◌–◌, ◌·◌, ◌/◌, x, opt, lit, repeat}
+use Rattle.std.specs.Prelude.{ℕ, List, Bool}
+use Rattle.abnf.specs.Abnf.{Abnf, ◌·◌, ◌/◌, x, opt, repeat}
 use Rattle.abnf.specs.Accepts.{accepts}
 use Rattle.times.specs.Datetime.{DIGIT}
 

@@ -1,5 +1,5 @@
 -- What the readers inside this crate find, for their contracts.
-use Rattle.std.specs.Prelude.{ℕ, zero, suc, ◌+◌, ◌*◌, ◌-◌, ◌≤◌, ◌≡◌, List, [], ◌∷◌, Bool, true, false, not, ◌&&◌, ◌||◌, cond, get_or, drop, length, eqb, leb}
+use Rattle.std.specs.Prelude.{ℕ, zero, suc, ◌+◌, ◌*◌, ◌-◌, List, [], ◌∷◌, Bool, not, ◌&&◌, ◌||◌, cond, get_or, drop, length, eqb, leb}
 use Rattle.abnf.specs.Accepts.{in_range}
 use Rattle.times.specs.Datetime.{is_date}
 

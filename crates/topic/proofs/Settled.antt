@@ -5,7 +5,7 @@ use mathlib.Core.Path.{◌≡◌, refl, sym, ap, ap₂, ◌∙◌}
 use mathlib.Core.List.{List, [], ◌∷◌}
 use lib.ListN.{length}
 use Rattle.answer.specs.Answer.{Answer, refused, gives}
-use Rattle.text.specs.Split.{split, join_by}
+use Rattle.text.specs.Split.{join_by}
 use Rattle.text.proofs.Joins.{splits}
 use Rattle.topic.specs.Words.{slash}
 use Rattle.topic.specs.Form.{Form, state, description, value, set, target, alert, log, broadcast, other}

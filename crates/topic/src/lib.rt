@@ -12,7 +12,7 @@ mod level;
 mod rest;
 
 // A topic's form with the places of its IDs, or the refusal's number.
-#[derive(Drop)]
+#[derive(Clone, Copy)]
 pub enum Topic {
     Refused(u8),
     State {
@@ -57,7 +57,7 @@ pub enum Topic {
 }
 
 // What a form asks of a message's flag.
-#[derive(Drop)]
+#[derive(Clone, Copy)]
 pub enum Flag {
     Retained,
     NotRetained,

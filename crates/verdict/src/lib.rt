@@ -19,7 +19,7 @@ use text::Place;
 use topic::Topic;
 
 // A refusal's number, or what is to be done: devices and properties by rank, `id` in the message's topic.
-#[derive(Drop)]
+#[derive(Clone, Copy)]
 pub enum Verdict {
     Refused(u8),
     Time,

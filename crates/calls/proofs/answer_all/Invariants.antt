@@ -1,0 +1,6 @@
+-- Each turn answers a line, and goes on behind it.
+use Rattle.std.proofs.Common.{◌-◌, length}
+use Rattle.calls.proofs.answer_all.Given as goal
+
+abbrev pub decreases-loop-at : goal.decreases-loop-at
+decreases-loop-at g l = length l.input - l.at

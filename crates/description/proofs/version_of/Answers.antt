@@ -1,0 +1,17 @@
+use mathlib.Core.Path.{refl}
+use Rattle.description.proofs.Device.{version-missing, version_kind, version_wrong, version-right}
+use Rattle.description.proofs.version_of.Goals as goal
+
+pub returns-in_default : goal.returns-in_default
+returns-in_default c = λ h. version-missing _ _ c.in_default.is (c.close_of.ensures h) c.no_version.ensures
+
+pub returns-then-not-is_number : goal.returns-then-not-is_number
+returns-then-not-is_number c = λ h. version_kind _ _ c.in-First.is c.is_number.ensures c.if-not-is_number.true c.no_version-then-not-is_number.ensures
+
+pub returns-in-Nothing : goal.returns-in-Nothing
+returns-in-Nothing c =
+    λ h. version_wrong _ _ c.in-First.is c.is_number.ensures c.if-not-is_number.false (c.value_bytes_by.ensures h) _ c.read_integer.ensures c.in-Nothing.is c.no_version-in-Nothing.ensures
+
+pub returns-in-Value : goal.returns-in-Value
+returns-in-Value c =
+    λ h. version-right _ _ c.in-First.is c.is_number.ensures c.if-not-is_number.false (c.value_bytes_by.ensures h) _ c.read_integer.ensures c.in-Value.is refl refl

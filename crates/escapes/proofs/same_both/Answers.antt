@@ -1,0 +1,5 @@
+use Rattle.escapes.proofs.Loops.{alike-plain}
+use Rattle.escapes.proofs.same_both.Goals as goal
+
+pub returns-then-is_plain : goal.returns-then-is_plain
+returns-then-is_plain c = alike-plain _ c.is_plain.ensures c.if-is_plain.true _ c.same.ensures

@@ -1,0 +1,8 @@
+use Rattle.fields.proofs.Rules.{or_yes, or_no}
+use Rattle.properties.proofs.takes_place.Goals as goal
+
+pub returns-then-placed : goal.returns-then-placed
+returns-then-placed c = λ h b w. or_yes _ _ c.if-placed.true
+
+pub returns : goal.returns
+returns c = λ h b w. or_no _ _ _ c.if-placed.false (c.is_before.ensures h b w)
