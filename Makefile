@@ -1,4 +1,4 @@
-# The C library: static and shared, made from what `rt staticlib viewer` proves and compiles.
+# The C library: static and shared, made from what `tools/build viewer` proves and compiles.
 #
 #   make                                   target/lib: libhomie5.a, libhomie5.so, homie5.pc, the documents to install
 #   make check                             tests of the C interface: programs, an installation, documents, comparison with reference/
@@ -22,7 +22,7 @@ SHARED := libhomie5.so.$(VERSION)
 
 MADE := target/lib
 PROVED := $(if $(HOMIE5_LIB_DIR),$(HOMIE5_LIB_DIR),target/staticlib)
-SOURCES := $(shell find crates -name must-fail -prune -o -type f -print)
+SOURCES := $(shell find crates \( -name must-fail -o -name out \) -prune -o -type f -print)
 LIBRARIES := $(MADE)/libhomie5.a $(MADE)/$(SHARED) $(MADE)/$(SONAME) $(MADE)/libhomie5.so
 DOCUMENTS := $(MADE)/RULES.md $(MADE)/SOUNDNESS.md
 
@@ -34,7 +34,7 @@ all: $(LIBRARIES) $(DOCUMENTS) $(MADE)/homie5.pc
 
 ifeq ($(HOMIE5_LIB_DIR),)
 $(PROVED)/libviewer.a: $(SOURCES)
-	rt staticlib viewer
+	tools/build viewer
 endif
 
 $(MADE)/libhomie5.a: $(PROVED)/libviewer.a

@@ -20,10 +20,7 @@ def expected(path):
 def verdicts(folder):
     """({label: what tests/must-fail says of it}, its exit status)"""
     done = subprocess.run([os.path.join(HERE, '..', 'must-fail'), '--edits', folder, 'json_text'], stdout=subprocess.PIPE)
-    said = {}
-    for label, what, how in re.findall(r'^json_text/(\w+): (NOT REFUSED|NO FACT FAILS|refused).*\((alone|one of)', done.stdout.decode('utf-8'), re.M):
-        said[label] = what + {'alone': ' alone', 'one of': ' with others'}[how] if what == 'refused' else what
-    return said, done.returncode
+    return dict(re.findall(r'^json_text/(\w+): (NOT REFUSED|NO FACT FAILS|refused)', done.stdout.decode('utf-8'), re.M)), done.returncode
 
 
 class Known(unittest.TestCase):

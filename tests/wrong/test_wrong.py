@@ -137,6 +137,40 @@ class Verdicts(unittest.TestCase):
         self.assertEqual(self.shown(BOTH, *FACT, 'proofs/Laws.antt:1:1: error: expected x', 'fn crate::a: not proved'), {})
 
 
+REFUSED = 'rt: must-fail k/%s.edit: refused, as it must be%s'
+TOLD = '''rt: k: 1 of its 9 must-fail edits were tried by an earlier run on this machine, and nothing that they stand on has changed
+rt: must-fail k/gone.edit: BAD EDIT: an 'old:' text is in src/lib.rt 0 times, and not once
+rt: must-fail k/type.edit: BAD EDIT: it did not reach the prover; the first lines of what it said:
+src/lib.rt:12:5: error[mismatched-types]: expected `usize`, found `bool`
+rt: must-fail k/right.edit: NOT REFUSED: the crate is still proved with this edit (one that means the same as before cannot be refused: remove it)
+rt: must-fail k/killed.edit: NOT TRIED: its check was killed, most likely for memory, so nothing is known of it: run this again
+rt: crates/k/must-fail/further/lost.edit: BAD EDIT: an edit stands right in must-fail/, and its name is of letters, digits, _, - and . and ends in .edit'''
+
+
+class Told(unittest.TestCase):
+    def fault(self, rest):
+        [(edit, wrong, line)] = verdicts.said_by_rt(REFUSED % ('some', rest))
+        self.assertEqual(edit, 'k/some')
+        self.assertIn(wrong or 'refused, as it must be', line)
+        return wrong
+
+    def test_facts_refuse(self):
+        self.assertIsNone(self.fault(''))
+        self.assertIsNone(self.fault(': note: src/lib.rt:12:17: it is not proved that what the function ensures holds when it returns (`returns-then-x-eq3`)'))
+        self.assertIsNone(self.fault(': ./proofs/get/Answers.antt:10:116: error: `returns-then-left-n`: as printed, the two types differ only where one has `n`'))
+
+    def test_names_limits_and_the_compiler_do_not(self):
+        for rest in (' (only because a proof file names what the edit took away, so this says little of the contract: change a value): ./proofs/a/Answers.antt:1:2: error: x',
+                     ': ./proofs/a/Proof.antt:3:4: error: the record `R` has no field `if2`', ': src/lib.rt:3:4: error[mismatched-types]: expected `u8`, found `bool`',
+                     ': ./proofs/a/Answers.antt:3:4: error: `b` is not in scope', ': ./proofs/b/Answers.antt:1:1: error: `a` was not admitted (it has holes ..)'):
+            self.assertIn('NO FACT', self.fault(rest), rest)
+        self.assertIn('NOT JUDGED', self.fault(' (only by a limit of the prover, which gave no verdict): antt ran out of stack'))
+
+    def test_what_is_not_refused_is_told(self):
+        told = [(edit, wrong and wrong.split(':')[0]) for edit, wrong, _ in verdicts.said_by_rt(TOLD)]
+        self.assertEqual(told, [(None, None), ('k/gone', 'BAD EDIT'), ('k/type', 'BAD EDIT'), (None, None), ('k/right', 'NOT REFUSED'), ('k/killed', 'NOT TRIED'), (None, 'BAD EDIT')])
+
+
 CRATE = {
     'src/lib.rt': 'mod part;\nfn a() { 1 }\nfn b() { 2 }\nfn c()\n    ensures { ⌜ x ⌝ }\n{\n    3\n}\n',
     'src/part.rt': 'fn d() { 4 }\n',
@@ -152,10 +186,10 @@ class Trials(unittest.TestCase):
     def setUp(self):
         folder = tempfile.TemporaryDirectory()
         self.addCleanup(folder.cleanup)
-        self.root = self.folder = folder.name
+        self.root = folder.name
         for file, text in CRATE.items():
             self.put(os.path.join('crates/k', file), text)
-        self.crate = trials.Crate(self, 'k', ['crates/k/must-fail'])
+        self.crate = trials.Crate(self.root, 'k', ['crates/k/must-fail'])
 
     def put(self, file, text):
         path = os.path.join(self.root, file)
@@ -182,6 +216,20 @@ class Trials(unittest.TestCase):
             self.put('target/must-fail/k/%s/.log' % label, log)
         results = dict((line.split(':')[0], refused) for refused, line in trials.tried_by_ci(self.root, ['k']))
         self.assertEqual(results, {'k/contract': False, 'k/in_a': True, 'k/in_b': False, 'k/in_d': False})
+
+    def test_edits_stand_right_in_must_fail(self):
+        self.put('crates/k/must-fail/further/lost.edit', '')
+        self.assertEqual(trials.edits_below(self.root, ['k']), {'k/contract', 'k/in_a', 'k/in_b', 'k/in_d'})
+
+    def test_a_copy_has_other_edits(self):
+        self.put('crates.txt', 'k:\n')
+        self.put('crates/k/out/kept', '')
+        self.put('others/k/other.edit', '')
+        with tempfile.TemporaryDirectory() as place:
+            trials.copy_with(self.root, os.path.join(self.root, 'others'), place)
+            self.assertEqual(trials.edits_below(place, ['k']), {'k/other'})
+            self.assertEqual(sorted(os.listdir(place)), ['crates', 'crates.txt'])
+            self.assertEqual(sorted(os.listdir(os.path.join(place, 'crates', 'k'))), ['must-fail', 'proofs', 'src'])
 
 
 if __name__ == '__main__':

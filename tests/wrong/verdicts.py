@@ -13,6 +13,13 @@ STATE = re.compile(r'^(?:fn|struct|enum) (\S+): (.*)$', re.M)
 SHAPE = re.compile(r'that can be named from here|record `[^`]*`\s+has no field')
 # .. or it answers a need where the code now has another
 OTHER_NEED = re.compile(r'expected type `tie\.[^`]*`, but this has type `tie\.')
+# what `rt must-fail` and `rt ci` say of an edit, and of what is no edit
+TRIED = re.compile(r'^rt: must-fail (\w+/[\w.-]+)\.edit: (.*)$')
+NO_EDIT = re.compile(r'^rt: .*: (BAD EDIT: .*)$')
+REFUSED = re.compile(r'^refused, as it must be(?: \((only .*?)\))?(?:: (.*))?$')
+# the place and the error, or the fact, that such a line names: a name that is not there, or what the compiler says before any proof, is no fact
+NAMED = re.compile(r'^(?:note: )?(\S+:\d+:\d+): (.*)$')
+NO_FACT = re.compile(r'is not in scope|has no field|has no `|was not admitted|error\[[\w-]+\]')
 
 
 def is_proved(status, said):
@@ -47,6 +54,34 @@ def fault(status, said):
     if is_shape(errors_of(said)):
         return 'NO FACT FAILS: a proof does not fit the shape of the code'
     return None
+
+
+def fault_told(what):
+    """What is wrong with what rt tells of an edit, or None."""
+    refused = REFUSED.match(what)
+    if not refused:
+        return what
+    only, named = refused.group(1) or '', NAMED.match(refused.group(2) or '')
+    if only.startswith('only by a limit'):
+        return 'NOT JUDGED: ' + only
+    if only or named and (is_shape([named.groups()]) or NO_FACT.search(named.group(2))):
+        return 'NO FACT FAILS: a proof does not fit the shape of the code: ' + (only or refused.group(2))
+    return None
+
+
+def said_by_rt(said):
+    """[(the edit as CRATE/LABEL, what is wrong with how it is refused, the line that says so)]. What is no edit has None for its name; so has any other line,
+    with nothing wrong."""
+    results = []
+    for line in said.splitlines():
+        tried, other = TRIED.match(line), NO_EDIT.match(line)
+        if tried:
+            edit, what = tried.groups()
+            wrong = fault_told(what)
+            results.append((edit, wrong, '%s: %s' % (edit, wrong or what)))
+        else:
+            results.append((None, other and other.group(1), line))
+    return results
 
 
 def own_errors(said, folders, folder_of):

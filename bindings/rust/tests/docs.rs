@@ -15,5 +15,5 @@ fn documentation_needs_no_library() {
         .unwrap();
     let said = String::from_utf8_lossy(&made.stderr);
     assert!(made.status.success(), "{said}");
-    assert!(said.contains("no_library has neither libhomie5.a nor libviewer.a: run `rt staticlib viewer`"), "{said}");
+    assert!(said.contains("no_library has neither libhomie5.a nor libviewer.a: run `tools/build viewer`"), "{said}");
 }
