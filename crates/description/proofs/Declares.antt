@@ -4,11 +4,11 @@ use native.Mathlib.Omega.{arith}
 use mathlib.Core.Path.{◌≡◌, refl, sym, ap, ◌∙◌}
 use mathlib.Core.Logic.{◌⊎◌, inl, inr}
 use mathlib.Core.List.{List, [], ◌∷◌, ◌++◌}
-use mathlib.Core.Bool.{Bool, true, false, not, false≢true}
-use mathlib.Core.Option.{Option, none, some}
+use mathlib.Core.Bool.{true, not, false≢true}
+use mathlib.Core.Option.{none, some}
 use lib.ListN.{length}
 use borrow.Author.Tests.{not-true}
-use Rattle.answer.specs.Answer.{Answer, gives, refused, placed}
+use Rattle.answer.specs.Answer.{gives}
 use Rattle.text.specs.Bytes.{eq_bytes}
 use Rattle.text.specs.Ids.{is_id}
 use Rattle.text.proofs.Bytes.{eq_bytes-false}
@@ -16,7 +16,7 @@ use Rattle.json_text.specs.Bytes.{ws}
 use Rattle.json_grammar.specs.Place.{bad_places}
 use Rattle.faults.specs.declared.Told.{Told}
 use Rattle.faults.specs.declared.Told.TheVariants.{Nothing, At}
-use Rattle.faults.specs.Faults.{Fault, least, other_rule, ◌otherwise◌}
+use Rattle.faults.specs.Faults.{other_rule, ◌otherwise◌}
 use Rattle.faults.proofs.Laws.{at-nothing, both-none, rule-kept, least-nothing}
 use Rattle.fields.specs.Values.{string_bytes, is_string_at, is_object}
 use Rattle.fields.specs.Fields.{field, is_present, text_in, name_faults, decoded_faults}

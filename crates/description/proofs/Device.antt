@@ -1,36 +1,33 @@
 -- What each way through the code shows of the device's fields.
-use Prim.Native.Nat.{ℕ, zero, suc, ◌+◌, ◌-◌, ◌≤◌, ◌<◌, ◌^◌}
+use Prim.Native.Nat.{ℕ, suc, ◌+◌, ◌-◌, ◌≤◌, ◌<◌}
 use native.Mathlib.Numerals.{add-one}
 use native.Mathlib.Omega.{arith}
 use mathlib.Core.Path.{◌≡◌, refl, sym, ap, ◌∙◌}
-use mathlib.Core.List.{List, [], ◌∷◌, ◌++◌}
-use mathlib.Core.Bool.{Bool, true, false, not, ◌&&◌, ◌||◌}
-use mathlib.Core.Option.{Option, none, some}
+use mathlib.Core.List.{List, ◌++◌}
+use mathlib.Core.Bool.{Bool, true, false, not, ◌||◌}
 use lib.ListN.{length, take, drop, get_or, length-drop, drop_of_length-le}
 use lib.Seq.{drop-cons, take_all}
-use lib.Dec.{eqb, leb}
-use lib.IntN.{ℤ}
+use lib.Dec.{eqb}
 use borrow.Author.Tests.{ne_eqb, eq-eqb, le-leb, lt-leb}
 use Rattle.text.specs.Bytes.{eq_bytes, slice}
 use Rattle.text.specs.Ids.{is_id}
 use Rattle.text.specs.Ascii.{ascii}
-use Rattle.text.proofs.Bytes.{both, and_both}
+use Rattle.text.proofs.Bytes.{both}
 use Rattle.text.proofs.Ids.{id-long}
 use Rattle.numbers.specs.Digits.{is_digit}
 use Rattle.numbers.specs.Integer.{integer, integer_read}
-use Rattle.numbers.specs.Whole.{stands}
 use Rattle.numbers.specs.declared.integers.IntegerRead.{IntegerRead}
 use Rattle.numbers.specs.declared.integers.IntegerRead.TheVariants as read
 use Rattle.faults.specs.declared.Told.{Told}
 use Rattle.faults.specs.declared.Told.TheVariants.{Nothing, At}
-use Rattle.faults.specs.Faults.{Fault, is_earlier, earlier, least, other_rule, ◌otherwise◌}
+use Rattle.faults.specs.Faults.{Fault, earlier, least, other_rule, ◌otherwise◌}
 use Rattle.faults.proofs.Laws.{is-beside, earlier-first, earlier-none, earlier_comm, earlier_assoc, at-nothing, least-one, rule-holds, rule-broken, join-told, least-join}
 use Rattle.json_text.specs.Strings.{raw_bytes, is_plain}
 use Rattle.escapes.specs.Decode.{Decoded, whole, half}
 use Rattle.escapes.specs.declared.Decoding.{Decoding}
 use Rattle.escapes.specs.declared.Decoding.TheVariants.{Whole, Half}
 use Rattle.fields.specs.Values.{value_bytes, decoded_at, string_bytes, is_string_at, is_number_at, DecodesAt}
-use Rattle.fields.specs.Fields.{is_present, of_kind, unless_half, decoded_faults, no_rule, close_at}
+use Rattle.fields.specs.Fields.{is_present, unless_half, decoded_faults, no_rule, close_at}
 use Rattle.fields.proofs.Decoded.{plain-faults, whole-faults, decoded-faults, decoded-length, decoded-bytes, broken-faults, untold-whole, told-faults}
 use Rattle.fields.specs.declared.Field.{Field}
 use Rattle.fields.specs.declared.Field.TheVariants.{Absent, First}

@@ -1,8 +1,8 @@
 -- A `homie` string has no backslash.
 use Prim.Native.Nat.{ℕ}
 use mathlib.Core.Path.{◌≡◌, refl, sym, ap, ◌∙◌}
-use mathlib.Core.List.{List, [], ◌∷◌, ◌++◌}
-use mathlib.Core.Bool.{Bool, true, false, not, ◌&&◌, ◌||◌, false≢true}
+use mathlib.Core.List.{List, [], ◌∷◌}
+use mathlib.Core.Bool.{true, not, ◌&&◌, ◌||◌, false≢true}
 use lib.ListN.{length, get_or, take, drop, take-append-drop}
 use lib.Dec.{eqb, leb}
 use Rattle.text.specs.Bytes.{eq_bytes, every}

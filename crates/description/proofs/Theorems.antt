@@ -4,7 +4,6 @@ use mathlib.Core.Path.{◌≡◌, sym, ap, ◌∙◌}
 use mathlib.Core.Logic.{◌↔◌}
 use lib.ListN.{length}
 use mathlib.Core.List.{List}
-use mathlib.Core.Bool.{true}
 use Rattle.answer.specs.Answer.{refused, placed, gives}
 use Rattle.json_text.specs.Bytes.{ws}
 use Rattle.json_grammar.specs.Place.{NotJsonAt, LeastOf, JsonText, fault_place}
@@ -13,7 +12,7 @@ use Rattle.json_grammar.proofs.Smallest.{none_wrong}
 use Rattle.faults.specs.declared.Told.TheVariants.{Nothing, At}
 use Rattle.properties.specs.Valid.{Arranged}
 use Rattle.description.specs.declared.Description.{Description}
-use Rattle.description.specs.Description.{is_homie, declared, told, Described, described_in, describe}
+use Rattle.description.specs.Description.{declared, told, Described, described_in, describe}
 use Rattle.description.specs.Meaning.{meaning, Shows}
 use Rattle.description.specs.Declares.{Declares}
 use Rattle.description.proofs.Whole as whole

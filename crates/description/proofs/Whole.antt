@@ -4,11 +4,9 @@ use native.Mathlib.Omega.{arith}
 use mathlib.Core.Path.{◌≡◌, refl, sym, ap, ◌∙◌}
 use mathlib.Core.List.{List, [], ◌∷◌, ◌++◌, map, append_assoc}
 use mathlib.Core.Bool.{Bool, true, false}
-use mathlib.Core.Option.{Option, none, some}
 use lib.ListN.{length}
 use lib.Dec.{leb, eqb}
-use lib.IntN.{ℤ}
-use borrow.Author.Tests.{le-leb, lt-leb, leb-true, leb-false, eqb-true, eqb-false}
+use borrow.Author.Tests.{le-leb, leb-true, leb-false, eqb-true, eqb-false}
 use Rattle.answer.specs.Answer.{Answer, refused, only, placed, gives, require}
 use Rattle.answer.proofs.Theorems.{same_number, same_place}
 use Rattle.text.specs.Utf8.{is_utf8}
@@ -23,24 +21,22 @@ use Rattle.json_grammar.specs.Place.{bad_place, place_unless, bad_places, smalle
 use Rattle.json_grammar.proofs.Smallest.{wrong-smallest, none_wrong}
 use Rattle.faults.specs.declared.Told.{Told}
 use Rattle.faults.specs.declared.Told.TheVariants.{Nothing, At}
-use Rattle.faults.specs.Faults.{Fault, is_earlier, earlier, least, not_json}
-use Rattle.faults.proofs.Laws.{is-before, is-behind, is-beside, earlier-first, earlier-second, earlier_assoc, earlier_comm, earlier-none, earlier-nothing, at-nothing, least-one, join-told}
+use Rattle.faults.specs.Faults.{is_earlier, earlier, least, not_json}
+use Rattle.faults.proofs.Laws.{is-before, is-behind, is-beside, earlier-first, earlier-second, earlier_assoc, earlier_comm, earlier-none, earlier-nothing, at-nothing, join-told}
 use Rattle.fields.specs.Values.{is_object}
-use Rattle.fields.specs.Fields.{field, text_in, members_in, field_faults, name_faults}
+use Rattle.fields.specs.Fields.{field, members_in, field_faults}
 use Rattle.fields.specs.Known.{known_name, field_at, Knows}
 use Rattle.fields.specs.declared.Known.{Known}
 use Rattle.fields.specs.declared.Field.{Field}
 use Rattle.fields.specs.declared.Kind.{Kind}
-use Rattle.fields.specs.declared.Kind.TheVariants.{Text, Object, Ids, Texts}
 use Rattle.fields.specs.declared.Owner.TheVariants as owner
 use Rattle.fields.proofs.Values.{kind-other, kind-right}
-use Rattle.properties.specs.declared.Entries.{Entries}
-use Rattle.properties.specs.Property.{Property, insert_all}
+use Rattle.properties.specs.Property.{insert_all}
 use Rattle.properties.specs.Entries.{properties_most, view}
 use Rattle.nodes.specs.declared.Listed.{Listed}
 use Rattle.nodes.specs.Listed.{Lists}
 use Rattle.nodes.specs.Nodes.{nodes_faults, properties_of}
-use Rattle.description.specs.Names.{homie, version, nodes, name, type, children, root, parent, extensions}
+use Rattle.description.specs.Names.{homie, version, nodes, root, parent}
 use Rattle.description.specs.declared.Description.{Description}
 use Rattle.description.specs.declared.VersionRead.{VersionRead}
 use Rattle.description.specs.Description.{homie_faults, version_in, version_faults, other_faults, root_faults, parent_faults, number_of, declared, device_field_faults, device_faults, json_faults, faults, told, Described, described_in, answered, describe}

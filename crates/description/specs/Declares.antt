@@ -1,6 +1,6 @@
 -- What holds of all that a valid description declares (paper 01, "The description").
 use Rattle.std.specs.Prelude.{ℕ, ◌≤◌, ◌≡◌, List, true, length}
-use Rattle.std.proofs.Math.Option.{Option, none, some}
+use Rattle.std.proofs.Math.Option.{none, some}
 use Rattle.text.specs.Ids.{is_id}
 use Rattle.properties.specs.Property.{Property}
 use Rattle.properties.specs.Valid.{Valid, In, ascends}

@@ -1,5 +1,5 @@
 -- What the contracts of private functions cite: the faults of a device and what it declares, by what was seen of its known fields.
-use Rattle.std.specs.Prelude.{ℕ, ◌^◌, ◌≡◌, List, [], ◌++◌}
+use Rattle.std.specs.Prelude.{ℕ, ◌^◌, ◌≡◌, List, ◌++◌}
 use Rattle.std.proofs.Math.Option.{some}
 use Rattle.answer.specs.Answer.{gives}
 use Rattle.numbers.specs.Whole.{stands}

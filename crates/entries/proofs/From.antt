@@ -1,14 +1,14 @@
 -- The entries from a place on, an entry at a time.
-use Prim.Native.Nat.{ℕ, zero, suc, ◌+◌, ◌-◌, ◌≤◌, ◌<◌}
+use Prim.Native.Nat.{ℕ, ◌+◌, ◌-◌, ◌≤◌, ◌<◌}
 use native.Mathlib.Omega.{arith}
 use mathlib.Core.Path.{◌≡◌, refl, sym, ap, ◌∙◌}
 use mathlib.Core.List.{List, [], ◌∷◌}
-use mathlib.Core.Bool.{Bool, true, false, not, ◌&&◌, ◌||◌, cond}
+use mathlib.Core.Bool.{Bool, true, false, not, ◌&&◌, cond}
 use lib.Dec.{leb}
-use lib.ListN.{length, take, drop}
+use lib.ListN.{length, drop}
 use borrow.Author.Tests.{le-leb, lt-leb, leb-true, leb-false}
 use Rattle.text.specs.Bytes.{eq_bytes, slice}
-use Rattle.text.specs.Split.{split, first_len, part_at}
+use Rattle.text.specs.Split.{split, part_at}
 use Rattle.text.specs.declared.Part.{Part}
 use Rattle.text.specs.declared.Part.TheVariants.{Found, Nothing}
 use Rattle.text.proofs.Slices.{slice-length}

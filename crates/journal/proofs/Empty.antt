@@ -1,5 +1,5 @@
 -- Memory that was opened: sound, with no device.
-use Prim.Native.Nat.{ℕ, zero, ◌+◌, ◌≤◌, ◌<◌}
+use Prim.Native.Nat.{ℕ, ◌+◌, ◌≤◌, ◌<◌}
 use native.Mathlib.Omega.{arith}
 use mathlib.Core.Path.{◌≡◌, refl, sym, ap, ◌∙◌}
 use mathlib.Core.Bool.{Bool, true, false, ◌&&◌}
@@ -8,7 +8,7 @@ use lib.ListN.{length, get_or, set, replicate, length-set, get_or-replicate}
 use lib.Dec.{leb}
 use borrow.Author.Tests.{leb-true}
 use Rattle.memory.specs.Bytes.{span}
-use Rattle.memory.specs.Layout.{room_size, most, domain_at, domain_length, head_at, head_size, order_at, image_at, capacity, depth}
+use Rattle.memory.specs.Layout.{room_size, most, domain_at, domain_length, head_at, head_size, order_at, image_at}
 use Rattle.memory.specs.Sound.{Header, Sound}
 use Rattle.memory.specs.State.{state, current}
 use Rattle.journal.specs.Contract.{opens, fresh, Opened}

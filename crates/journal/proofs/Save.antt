@@ -1,5 +1,5 @@
 -- What undoes a change is saved: the old bytes, an entry, the ring's two bytes.
-use Prim.Native.Nat.{ℕ, suc, ◌+◌, ◌*◌, ◌≤◌, ◌<◌, min}
+use Prim.Native.Nat.{ℕ, suc, ◌+◌, ◌≤◌, ◌<◌, min}
 use native.Mathlib.Omega.{arith}
 use native.Mathlib.Decide.{dec_lt}
 use mathlib.Core.Path.{◌≡◌, refl, sym, ap, ap₂, ◌∙◌}
@@ -9,7 +9,7 @@ use lib.Seq.{set-get_or}
 use Rattle.little_endian.specs.Bytes.{u16}
 use Rattle.memory.specs.Bytes.{span, tab}
 use Rattle.memory.specs.Layout.{room_size, room_at, image_at, entry_at, head_at, head_size, head_of, order_at, domain_at, domain_length, capacity, depth, next, steps, slot, from_of, to_of, offset_of, length_of, count_of}
-use Rattle.memory.specs.Sound.{Header, Sound, Able}
+use Rattle.memory.specs.Sound.{Header, Able}
 use Rattle.memory.specs.State.{Change, entry, entries, place}
 use Rattle.journal.specs.Parts.{Over, Noted, Stays, Saved, turn, saving}
 use Rattle.memory.proofs.Flat.{Same, set_same, set_other, span-kept, span_same, num-same, get_or-span}

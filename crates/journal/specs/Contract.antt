@@ -1,6 +1,6 @@
 -- What the public calls promise of their answer and of the memory afterwards.
 use Rattle.std.specs.Prelude.{ℕ, ◌+◌, ◌≤◌, ◌<◌, ◌≡◌, Bool, true, false, ◌&&◌, List, [], length, get_or, drop, replicate, leb}
-use Rattle.memory.specs.Layout.{most, domain_most, head_size, image_at, capacity, depth, next, steps, size, from_of, to_of, count_of, offset_of, length_of}
+use Rattle.memory.specs.Layout.{most, domain_most, head_size, image_at, depth, next, steps, size, from_of, to_of, count_of, offset_of, length_of}
 use Rattle.memory.specs.Sound.{Sound, Able}
 use Rattle.memory.specs.State.{Now, Change, State, state, room_of, made, offered, undone, place}
 

@@ -1,5 +1,5 @@
 -- What the private functions do, for their contracts only.
-use Rattle.std.specs.Prelude.{ℕ, zero, suc, ◌+◌, ◌-◌, ◌≤◌, ◌<◌, ◌≡◌, List, ◌∷◌, length, get_or, take, eqb}
+use Rattle.std.specs.Prelude.{ℕ, suc, ◌+◌, ◌-◌, ◌≤◌, ◌<◌, ◌≡◌, List, ◌∷◌, length, get_or, take, eqb}
 use Rattle.little_endian.specs.Bytes.{u16}
 use Rattle.memory.specs.Bytes.{span, move}
 use Rattle.memory.specs.Layout.{room_size, most, mark, mark_at, image_at, domain_at, domain_most, room_at, head_at, head_size, order_at, capacity, depth, domain_length, size, slot, from_of, entry_size}

@@ -1,17 +1,17 @@
 -- The places between the colons.
-use Prim.Native.Nat.{ℕ, zero, suc, ◌+◌, ◌-◌, ◌≤◌, ◌<◌}
+use Prim.Native.Nat.{ℕ, ◌+◌, ◌≤◌, ◌<◌}
 use native.Mathlib.Omega.{arith}
 use mathlib.Core.Path.{◌≡◌, refl, sym, ap, ◌∙◌}
-use mathlib.Core.List.{List, [], ◌∷◌}
-use lib.ListN.{length, take, drop}
+use mathlib.Core.List.{List, ◌∷◌}
+use lib.ListN.{length, drop}
 use Rattle.text.specs.Bytes.{slice}
-use Rattle.text.specs.Split.{split, part_at, first_len}
+use Rattle.text.specs.Split.{part_at}
 use Rattle.text.specs.declared.Part.{Part}
 use Rattle.text.specs.declared.Part.TheVariants.{Found, Nothing}
-use Rattle.text.proofs.Split.{IsPart, is_part, is_none, split-first, split-more, split-last, others}
+use Rattle.text.proofs.Split.{IsPart, is_part, is_none, split-first, split-more, split-last}
 use Rattle.ranges.specs.declared.Cuts.{Cuts}
 use Rattle.ranges.specs.declared.Cuts.TheVariants.{Two, Three, Other}
-use Rattle.ranges.specs.Parts.{Fields, two, three, other, counted, fields, shown, Lies, CutAt}
+use Rattle.ranges.specs.Parts.{two, three, other, counted, fields, shown, Lies, CutAt}
 
 pub found : (s : List ℕ) (at : ℕ) {r : Part} {a e n : ℕ} → r ≡ part_at 58 s at → r ≡ Found a e n → IsPart 58 s at at e n
 found s at {r} {a} {e} {n} q f =

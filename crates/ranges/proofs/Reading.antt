@@ -1,11 +1,10 @@
 -- Bounds, steps and ranges from what was read.
-use Prim.Native.Nat.{ℕ, zero, suc, ◌+◌, ◌^◌, ◌≤◌, ◌<◌}
+use Prim.Native.Nat.{ℕ, zero, suc, ◌^◌}
 use native.Mathlib.Omega.{arith}
-use mathlib.Core.Path.{◌≡◌, refl, sym, ap, ◌∙◌, subst}
+use mathlib.Core.Path.{◌≡◌, refl, sym, ap, ◌∙◌}
 use mathlib.Core.List.{List, [], ◌∷◌}
-use mathlib.Core.Bool.{Bool, true, false, cond}
+use mathlib.Core.Bool.{Bool, true, false}
 use mathlib.Core.Option.{Option, none, some, map}
-use lib.Dec.{leb}
 use lib.IntN.{ℤ, pos, negsuc}
 use lib.Signed.{le_z}
 use lib.ListN.{length}
@@ -13,7 +12,7 @@ use Rattle.numbers.specs.declared.steps.Bound.{Bound}
 use Rattle.numbers.specs.declared.compare.DecimalBound.{DecimalBound}
 use Rattle.numbers.specs.Integer.{integer}
 use Rattle.numbers.specs.Step.{in_range, limit}
-use Rattle.numbers.specs.Whole.{above_zero, stands}
+use Rattle.numbers.specs.Whole.{above_zero}
 use Rattle.numbers.specs.Decimal.{Scientific, decimal, of_whole}
 use Rattle.numbers.specs.Ratio.{decimal_in_bounds, decimal_limit}
 use Rattle.numbers.specs.Billionths.{billionths}

@@ -29,9 +29,9 @@ use Rattle.numbers.specs.Decimal.{Scientific, before, after, significant, power,
 use Rattle.numbers.specs.Billionths.{in_billionths, billionths}
 use Rattle.numbers.proofs.Acceptance.{word_value}
 use Rattle.numbers.proofs.Theorems.{integer-words, decimal-words, fixed-words}
-use Rattle.ranges.specs.Ranges.{Range, range-text, fields_of, is_some, each_read, numbers_of, if_there, valid, range_of, positive, le_decimal, FloatBounds, exactly, stepped, has_step, integer_range, float_range}
+use Rattle.ranges.specs.Ranges.{Range, range-text, fields_of, is_some, each_read, numbers_of, if_there, valid, range_of, positive, le_decimal, exactly, stepped, has_step, integer_range, float_range}
 use Rattle.ranges.specs.Promises.{number_in, IsRange}
-use Rattle.ranges.specs.Parts.{two, three, other, counted, fields, bound, within, keep, with_step, from_fields, float_fields, ordered}
+use Rattle.ranges.specs.Parts.{counted, fields, bound, within, keep, with_step, from_fields, float_fields, ordered}
 
 -- ---- a grammar without a byte has no word with it
 

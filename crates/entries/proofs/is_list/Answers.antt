@@ -1,7 +1,7 @@
 use Rattle.entries.specs.Parts.{from}
 use Prim.Native.Nat.{◌+◌}
 use mathlib.Core.Path.{refl, sym, ap, ◌∙◌}
-use mathlib.Core.Bool.{Bool, true, not, ◌&&◌}
+use mathlib.Core.Bool.{Bool, not, ◌&&◌}
 use native.Mathlib.Omega.{arith}
 use Rattle.text.specs.Bytes.{slice}
 use Rattle.entries.proofs.From.{good, list_is, empty-here, step-here, found_here, other-here, none_left, not_found}

@@ -1,0 +1,22 @@
+use Rattle.judge.proofs.Shapes.{topic_no_1, topic_no_2, topic-all}
+use Rattle.judge.proofs.Asking.{word_bytes, word_none}
+use Rattle.judge.proofs.Saying.{says}
+use Rattle.judge.proofs.question.topic_line.Goals as goal
+
+pub returns-in_default : goal.returns-in_default
+returns-in_default c =
+    says (topic_no_1 _ _ (word_none c.args.line.now 1 c.at.ensures c.decode.ensures c.requires c.large_buffer-mem.ensures c.in_default.is)) c.unknown.ensures
+
+pub returns-in_default-decode : goal.returns-in_default-decode
+returns-in_default-decode c =
+    says (topic_no_2 _ _ (word_bytes c.args.line.now 1 c.at.ensures c.decode.ensures c.requires c.large_buffer-mem.ensures _ c.in-Bytes.is).bytes (word_none c.args.line.now 2 c.at-2.ensures c.decode-2.ensures c.requires c.large_buffer-mem2.ensures c.in_default-decode.is)) c.unknown-in_default-decode.ensures
+
+pub slice_bounds-of_topic-end : goal.slice_bounds-of_topic-end
+slice_bounds-of_topic-end c = (word_bytes c.args.line.now 1 c.at.ensures c.decode.ensures c.requires c.large_buffer-mem.ensures _ c.in-Bytes.is).inside
+
+pub slice_bounds-of_topic-end-2 : goal.slice_bounds-of_topic-end-2
+slice_bounds-of_topic-end-2 c = (word_bytes c.args.line.now 2 c.at-2.ensures c.decode-2.ensures c.requires c.large_buffer-mem2.ensures _ c.in-Bytes-decode.is).inside
+
+pub returns : goal.returns
+returns c =
+    says (topic-all _ _ (word_bytes c.args.line.now 1 c.at.ensures c.decode.ensures c.requires c.large_buffer-mem.ensures _ c.in-Bytes.is).bytes (word_bytes c.args.line.now 2 c.at-2.ensures c.decode-2.ensures c.requires c.large_buffer-mem2.ensures _ c.in-Bytes-decode.is).bytes) c.of_topic.ensures
