@@ -3,7 +3,7 @@ use lines::hex::Decoded;
 use rules::LaneKind;
 use text::Place;
 
-#[derive(Drop)]
+#[derive(Clone, Copy)]
 pub enum Spelt {
     Nothing,
     At { place: Place },
@@ -32,7 +32,7 @@ pub(crate) fn bytes(space: &[u8], p: Place) -> &[u8] {
     text::slice(space, p.start, p.end)
 }
 
-#[derive(Drop)]
+#[derive(Clone, Copy)]
 pub enum KindRead {
     Nothing,
     Is(LaneKind),

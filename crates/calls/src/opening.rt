@@ -3,7 +3,7 @@ use lines::hex::Decoded;
 use lines::number::NumberRead;
 
 // What is asked for: the domain stands in the first bytes of the space.
-#[derive(Drop)]
+#[derive(Clone, Copy)]
 pub enum Opening {
     Nothing,
     Asks {

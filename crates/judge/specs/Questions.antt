@@ -1,6 +1,6 @@
 -- docs/PROGRAMS.md: the questions of a line, and their answers.
 use Rattle.std.specs.Prelude.{ℕ, List, Bool, cond, eqb, length}
-use Rattle.answer.specs.Answer.{Answer, gives}
+use Rattle.answer.specs.Answer.{gives}
 use Rattle.text.specs.Ascii.{ascii}
 use Rattle.text.specs.Bytes.{eq_bytes}
 use Rattle.text.specs.Ids.{is_id}
