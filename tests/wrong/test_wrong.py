@@ -162,6 +162,8 @@ class Told(unittest.TestCase):
     def test_names_limits_and_the_compiler_do_not(self):
         for rest in (' (only because a proof file names what the edit took away, so this says little of the contract: change a value): ./proofs/a/Answers.antt:1:2: error: x',
                      ': ./proofs/a/Proof.antt:3:4: error: the record `R` has no field `if2`', ': src/lib.rt:3:4: error[mismatched-types]: expected `u8`, found `bool`',
+                     ': ./proofs/a/Answers.antt:19:36: error: `returns-then-peek-eq93`: `goal.returns-then-peek-eq93`: module `Rat',
+                     ': ./proofs/a/Answers.antt:25:74: error: `loop-v-init`: record `Rattle.k.proofs.a.Lts.View` (nearest: .peek)',
                      ': ./proofs/a/Answers.antt:3:4: error: `b` is not in scope', ': ./proofs/b/Answers.antt:1:1: error: `a` was not admitted (it has holes ..)'):
             self.assertIn('NO FACT', self.fault(rest), rest)
         self.assertIn('NOT JUDGED', self.fault(' (only by a limit of the prover, which gave no verdict): antt ran out of stack'))

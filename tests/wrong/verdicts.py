@@ -17,9 +17,11 @@ OTHER_NEED = re.compile(r'expected type `tie\.[^`]*`, but this has type `tie\.')
 TRIED = re.compile(r'^rt: must-fail (\w+/[\w.-]+)\.edit: (.*)$')
 NO_EDIT = re.compile(r'^rt: .*: (BAD EDIT: .*)$')
 REFUSED = re.compile(r'^refused, as it must be(?: \((only .*?)\))?(?:: (.*))?$')
-# the place and the error, or the fact, that such a line names: a name that is not there, or what the compiler says before any proof, is no fact
+# the place and the error, or the fact, that such a line names ..
 NAMED = re.compile(r'^(?:note: )?(\S+:\d+:\d+): (.*)$')
-NO_FACT = re.compile(r'is not in scope|has no field|has no `|was not admitted|error\[[\w-]+\]')
+# .. and no fact: a name that is not there, whose error goes on in a line that is not shown, or what the compiler says before any proof
+GONE = r'error: `[^`]+`: (?:`goal\.|(?:`[^`]+`: )?(?:module|record) `)'
+NO_FACT = re.compile(r'is not in scope|has no field|has no `|was not admitted|error\[[\w-]+\]|' + GONE)
 
 
 def is_proved(status, said):
