@@ -7,7 +7,7 @@ use mathlib.Core.Bool.{Bool, true, false, ◌&&◌, false≢true}
 use lib.ListN.{length, length-append}
 use lib.Dec.{leb}
 use borrow.Author.Tests.{leb-true, le-leb}
-use Rattle.abnf.specs.Abnf.{Abnf, ◌–◌, ε, ◌·◌, ◌/◌, ∗◌, rule, Words, byte, nothing, join, left, right, none, more, named, no_rules, ◌∈◌}
+use Rattle.abnf.specs.Abnf.{Abnf, ◌–◌, ε, ◌·◌, ◌//◌, ∗◌, rule, Words, byte, nothing, join, left, right, none, more, named, no_rules, ◌∈◌}
 use Rattle.abnf.specs.Accepts.{in_range, is_empty, again, starts, accepts}
 
 pub and_both : (a b : Bool) → (a && b) ≡ true → (a ≡ true) × (b ≡ true)
@@ -47,11 +47,11 @@ sound-join a b f g k s e =
       holds = q.holds;
     }
 
-sound_either : (a b : Abnf ⊥) → Sound a → Sound b → Sound (a / b)
+sound_either : (a b : Abnf ⊥) → Sound a → Sound b → Sound (a // b)
 unfolding starts
 sound_either a b f g k s e = go (starts a k s) refl e
   where
-    go : (t : Bool) → starts a k s ≡ t → elim t as (λ x. Bool) [ true ↦ true | false ↦ starts b k s ] ≡ true → Front (a / b) k s
+    go : (t : Bool) → starts a k s ≡ t → elim t as (λ x. Bool) [ true ↦ true | false ↦ starts b k s ] ≡ true → Front (a // b) k s
     go true q e = let p = f k s q in record { word = p.word; rest = p.rest; is = left p.is; cut = p.cut; holds = p.holds }
     go false q e = let p = g k s e in record { word = p.word; rest = p.rest; is = right p.is; cut = p.cut; holds = p.holds }
 
@@ -78,7 +78,7 @@ unfolding starts
 sound (lo – hi) k s e = sound_range lo hi k s e
 sound ε k s e = record { word = []; rest = s; is = nothing; cut = refl; holds = e }
 sound (a · b) k s e = sound-join a b (sound a) (sound b) k s e
-sound (a / b) k s e = sound_either a b (sound a) (sound b) k s e
+sound (a // b) k s e = sound_either a b (sound a) (sound b) k s e
 sound (∗ a) k s e = sound-again a (sound a) (length s) k s e
 sound (rule n) k s e = absurd n
 
@@ -118,7 +118,7 @@ grows (lo – hi) k l h (b ∷ s) e = go (in_range lo hi b) e
     go false e = e
 grows ε k l h s e = h s e
 grows (a · b) k l h s e = grows a (λ r. starts b k r) (λ r. starts b l r) (λ r q. grows b k l h r q) s e
-grows (a / b) k l h s e = go (starts a k s) refl (grows a k l h s) (grows b k l h s) e
+grows (a // b) k l h s e = go (starts a k s) refl (grows a k l h s) (grows b k l h s) e
   where
     go : (t : Bool) → starts a k s ≡ t → (starts a k s ≡ true → starts a l s ≡ true) → (starts b k s ≡ true → starts b l s ≡ true) → elim t as (λ x. Bool) [ true ↦ true | false ↦ starts b k s ] ≡ true → elim (starts a l s) as (λ x. Bool) [ true ↦ true | false ↦ starts b l s ] ≡ true
     go true q f g e = or_left (starts a l s) _ (f q)

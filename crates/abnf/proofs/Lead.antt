@@ -3,7 +3,7 @@ use Prim.Native.Nat.{ℕ, zero, suc, ◌≤◌}
 use mathlib.Core.Path.{◌≡◌, refl, sym, ap, subst, ◌∙◌}
 use mathlib.Core.Logic.{◌⊎◌, inl, inr}
 use mathlib.Core.List.{List, [], ◌∷◌, ◌++◌, append_assoc, append-nil}
-use Rattle.abnf.specs.Abnf.{Abnf, ◌–◌, ε, ◌·◌, ◌/◌, ∗◌, rule, Words, byte, nothing, join, left, right, none, more, named}
+use Rattle.abnf.specs.Abnf.{Abnf, ◌–◌, ε, ◌·◌, ◌//◌, ∗◌, rule, Words, byte, nothing, join, left, right, none, more, named}
 
 pub data Many (R : List ℕ → List ℕ → Type 0) : List ℕ → List ℕ → Type 0 where
   over : {s : List ℕ} → Many R s s
@@ -14,7 +14,7 @@ abbrev pub Lead : {N : Type 0} → Abnf N → List ℕ → List ℕ → Type 0
 Lead (lo – hi) s r = (b : ℕ) × (lo ≤ b) × (b ≤ hi) × (s ≡ b ∷ r)
 Lead ε s r = s ≡ r
 Lead (a · b) s r = (m : List ℕ) × Lead a s m × Lead b m r
-Lead (a / b) s r = Lead a s r ⊎ Lead b s r
+Lead (a // b) s r = Lead a s r ⊎ Lead b s r
 Lead (∗ a) s r = Many (Lead a) s r
 Lead (rule n) s r = ⊥
 
@@ -23,7 +23,7 @@ abbrev pub fill : {N : Type 0} → (N → Abnf N) → Abnf N → Abnf N
 fill f (lo – hi) = lo – hi
 fill f ε = ε
 fill f (a · b) = fill f a · fill f b
-fill f (a / b) = fill f a / fill f b
+fill f (a // b) = fill f a // fill f b
 fill f (∗ a) = ∗ fill f a
 fill f (rule n) = f n
 
@@ -51,8 +51,8 @@ module _ {N : Type 0} (rules : N → Abnf N) where
       let p = lead_in d f a h.1 in
       let q = lead_in d f b h.2 in
       record { word = p.word ++ q.word; is = join p.is q.is; cut = cut-both p.word q.word _ p.cut q.cut }
-  lead_in d f (a / b) (inl h) = let p = lead_in d f a h in record { word = p.word; is = left p.is; cut = p.cut }
-  lead_in d f (a / b) (inr h) = let p = lead_in d f b h in record { word = p.word; is = right p.is; cut = p.cut }
+  lead_in d f (a // b) (inl h) = let p = lead_in d f a h in record { word = p.word; is = left p.is; cut = p.cut }
+  lead_in d f (a // b) (inr h) = let p = lead_in d f b h in record { word = p.word; is = right p.is; cut = p.cut }
   lead_in d f (∗ a) h = many (λ s r g. lead_in d f a {s = s} {r = r} g) h
     where
       many : ((s r : List ℕ) → Lead (expand d a) s r → Word d a s r) → {s r : List ℕ} → Many (Lead (expand d a)) s r → Word d (∗ a) s r

@@ -9,7 +9,7 @@ use lib.ListN.{length, drop, get_or, drop_of_length-le, get_or-eq_default}
 use lib.Seq.{drop-cons}
 use lib.Dec.{leb, ltb, eqb}
 use borrow.Author.Tests.{leb-true, leb-false, le-leb, lt-leb, eq-eqb, ltb-true, ltb-false, eqb-true}
-use Rattle.abnf.specs.Abnf.{Abnf, ◌–◌, ε, ◌·◌, ◌/◌, x, opt}
+use Rattle.abnf.specs.Abnf.{Abnf, ◌–◌, ε, ◌·◌, ◌//◌, x, opt}
 use Rattle.abnf.specs.Accepts.{in_range, is_empty, starts}
 
 -- by cases on a test, keeping what it says
@@ -69,7 +69,7 @@ pub starts-join : (a b : Abnf ⊥) (k : List ℕ → Bool) (s : List ℕ) → st
 unfolding starts
 starts-join a b k s = refl
 
-pub starts_either : (a b : Abnf ⊥) (k : List ℕ → Bool) (s : List ℕ) → starts (a / b) k s ≡ (starts a k s || starts b k s)
+pub starts_either : (a b : Abnf ⊥) (k : List ℕ → Bool) (s : List ℕ) → starts (a // b) k s ≡ (starts a k s || starts b k s)
 unfolding starts
 starts_either a b k s = or_elim (starts a k s) (starts b k s)
 

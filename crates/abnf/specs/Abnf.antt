@@ -10,14 +10,14 @@ pub data Abnf (N : Type 0) : Type 0 where
   -- concatenation
   ◌·◌ : Abnf N → Abnf N → Abnf N
   -- alternative
-  ◌/◌ : Abnf N → Abnf N → Abnf N
+  ◌//◌ : Abnf N → Abnf N → Abnf N
   -- *a, any number of times
   ∗◌ : Abnf N → Abnf N
   -- a rule by its name
   rule : N → Abnf N
 
 infixr 40 ◌·◌
-infixr 30 ◌/◌
+infixr 30 ◌//◌
 infixr 50 ◌–◌
 infixr 60 ∗◌
 -- `Words rules d a w`: w is a word of a, with named rules standing within each other at most d deep.
@@ -25,8 +25,8 @@ pub data Words {N : Type 0} (rules : N → Abnf N) : ℕ → Abnf N → List ℕ
   byte : {d lo hi b : ℕ} → lo ≤ b → b ≤ hi → Words rules d (lo – hi) (b ∷ [])
   nothing : {d : ℕ} → Words rules d ε []
   join : {d : ℕ} {a b : Abnf N} {x y : List ℕ} → Words rules d a x → Words rules d b y → Words rules d (a · b) (x ++ y)
-  left : {d : ℕ} {a b : Abnf N} {x : List ℕ} → Words rules d a x → Words rules d (a / b) x
-  right : {d : ℕ} {a b : Abnf N} {x : List ℕ} → Words rules d b x → Words rules d (a / b) x
+  left : {d : ℕ} {a b : Abnf N} {x : List ℕ} → Words rules d a x → Words rules d (a // b) x
+  right : {d : ℕ} {a b : Abnf N} {x : List ℕ} → Words rules d b x → Words rules d (a // b) x
   none : {d : ℕ} {a : Abnf N} → Words rules d (∗ a) []
   more : {d : ℕ} {a : Abnf N} {x y : List ℕ} → Words rules d a x → Words rules d (∗ a) y → Words rules d (∗ a) (x ++ y)
   named : {d : ℕ} {n : N} {x : List ℕ} → Words rules d (rules n) x → Words rules (suc d) (rule n) x
@@ -37,7 +37,7 @@ x b = b – b
 
 -- [a]
 abbrev pub opt : {N : Type 0} → Abnf N → Abnf N
-opt a = a / ε
+opt a = a // ε
 
 -- 1*a
 abbrev pub some : {N : Type 0} → Abnf N → Abnf N

@@ -1,6 +1,6 @@
 -- A grammar as a test that runs: `accepts a s` decides `s ∈ a` (proofs/Theorems.antt).
 use Rattle.std.specs.Prelude.{ℕ, zero, suc, List, [], ◌∷◌, Bool, true, false, ◌&&◌, length, leb}
-use Rattle.abnf.specs.Abnf.{Abnf, ◌–◌, ε, ◌·◌, ◌/◌, ∗◌, rule}
+use Rattle.abnf.specs.Abnf.{Abnf, ◌–◌, ε, ◌·◌, ◌//◌, ∗◌, rule}
 
 abbrev pub in_range : ℕ → ℕ → ℕ → Bool
 in_range lo hi b = leb lo b && leb b hi
@@ -20,7 +20,7 @@ starts (lo – hi) k [] = false
 starts (lo – hi) k (b ∷ s) = elim (in_range lo hi b) [ true ↦ k s | false ↦ false ]
 starts ε k s = k s
 starts (a · b) k s = starts a (λ r. starts b k r) s
-starts (a / b) k s = elim (starts a k s) [ true ↦ true | false ↦ starts b k s ]
+starts (a // b) k s = elim (starts a k s) [ true ↦ true | false ↦ starts b k s ]
 starts (∗ a) k s = again (λ f r. starts a f r) k (length s) s
 starts (rule n) k s = absurd n
 

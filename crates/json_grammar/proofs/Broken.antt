@@ -4,7 +4,7 @@ use native.Mathlib.Omega.{arith}
 use mathlib.Core.Path.{◌≡◌, refl, sym, ap, ◌∙◌}
 use mathlib.Core.Logic.{inl, inr}
 use mathlib.Core.List.{List, [], ◌∷◌, ◌++◌, append_assoc}
-use Rattle.abnf.specs.Abnf.{ε, ◌·◌, ◌–◌, ◌/◌, ∗◌, rule, x, lit}
+use Rattle.abnf.specs.Abnf.{ε, ◌·◌, ◌–◌, ◌//◌, ∗◌, rule, x, lit}
 use Rattle.abnf.proofs.Lead.{Many, over, again}
 use Rattle.text.proofs.Utf8Place.{AllAscii}
 use Rattle.json_grammar.proofs.Depth.{Json, Lead}
@@ -31,10 +31,10 @@ module _ {a b : Json} where
   pub some-join : AsciiWord a → AsciiWord b → AsciiWord (a · b)
   some-join p q = record { word = p.word ++ q.word; ascii = ascii-join p.word q.word p.ascii q.ascii; is = λ m. rw append_assoc (q.word ++ m, p.is (q.word ++ m), q.is m) }
 
-  pub some_left : AsciiWord a → AsciiWord (a / b)
+  pub some_left : AsciiWord a → AsciiWord (a // b)
   some_left p = record { word = p.word; ascii = p.ascii; is = λ m. inl (p.is m) }
 
-  pub some_right : AsciiWord b → AsciiWord (a / b)
+  pub some_right : AsciiWord b → AsciiWord (a // b)
   some_right p = record { word = p.word; ascii = p.ascii; is = λ m. inr (p.is m) }
 
 pub some-none : {a : Json} → AsciiWord (∗ a)
@@ -69,8 +69,8 @@ front_of (a · b) (k, f, g) =
     let p = front_of a f in
     let q = front_of b g in
     record { word = p.word ++ q.word; cut = cut-both p.word q.word _ p.cut q.cut; is = λ m. rw append_assoc (q.word ++ m, p.is (q.word ++ m), q.is m) }
-front_of (a / b) (inl f) = let p = front_of a f in record { word = p.word; cut = p.cut; is = λ m. inl (p.is m) }
-front_of (a / b) (inr f) = let p = front_of b f in record { word = p.word; cut = p.cut; is = λ m. inr (p.is m) }
+front_of (a // b) (inl f) = let p = front_of a f in record { word = p.word; cut = p.cut; is = λ m. inl (p.is m) }
+front_of (a // b) (inr f) = let p = front_of b f in record { word = p.word; cut = p.cut; is = λ m. inr (p.is m) }
 front_of (∗ a) h = many (λ l r g. front_of a {l = l} {r = r} g) h
   where
     many : ((l r : List ℕ) → Lead a l r → WordAtFront a l r) → {l r : List ℕ} → Many (Lead a) l r → WordAtFront (∗ a) l r

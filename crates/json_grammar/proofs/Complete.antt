@@ -25,7 +25,7 @@ use Rattle.json_text.proofs.Bytes.{split, both, byte_out, run_more, run-stop, ws
 use Rattle.json_text.proofs.Strings.{text_go, text-shut, plain-plain, hex_go}
 use Rattle.json_text.proofs.Values.{after_comma, after_close, series_then, list-none, list-some, member_at_lem}
 use Rattle.json_text.proofs.Numbers.{minus_yes, minus_no, sign-plus, sign-minus, sign_no, some_yes, some_no, int-zero, int-digits, frac_yes, frac_no, exp-upper, exp-lower, number-int, number-exp}
-use Rattle.abnf.specs.Abnf.{◌·◌, ◌/◌, ∗◌, x, opt, some, lit}
+use Rattle.abnf.specs.Abnf.{◌·◌, ◌//◌, ∗◌, x, opt, some, lit}
 use Rattle.json_grammar.specs.Rfc8259 as G
 use Rattle.abnf.proofs.Lead.{Many, over, again, expand}
 use Rattle.json_grammar.proofs.Depth.{Json, Lead, array_over, member_over, object_over, value, document_at, document_16}
@@ -84,7 +84,7 @@ abbrev Blank : ℕ → Type 0
 Blank b = (is_ws b ≡ true) × Stop b
 
 abbrev ws_byte : Json
-ws_byte = x 0x20 / x 0x09 / x 0x0A / x 0x0D
+ws_byte = x 0x20 // x 0x09 // x 0x0A // x 0x0D
 
 first-ws : (l m : List ℕ) → Lead ws_byte l m → First Blank l m
 unfolding is_ws
@@ -238,7 +238,7 @@ module _ (s : List ℕ) where
   later e h r = record { end = r.end; is = e ∙ r.is; rest = r.rest; from = omega arith; fits = r.fits }
 
   -- numbers, from the last part to the first
-  sign-end : (at : ℕ) (l k m : List ℕ) → drop at s ≡ l → Lead (opt (x 0x2D / x 0x2B)) l k → Lead (some G.DIGIT) k m → is_digit (head m) ≡ false → Ends (some_digits s (optional is_sign s at)) at m
+  sign-end : (at : ℕ) (l k m : List ℕ) → drop at s ≡ l → Lead (opt (x 0x2D // x 0x2B)) l k → Lead (some G.DIGIT) k m → is_digit (head m) ≡ false → Ends (some_digits s (optional is_sign s at)) at m
   sign-end at l k m e (inl (inl g)) w n = let a = at_x at 45 l k e g in
       later (ap (some_digits s) (sym (sign-minus s at a.here))) (omega arith) (some_end (at + 1) k m a.rest w n)
   sign-end at l k m e (inl (inr g)) w n = let a = at_x at 43 l k e g in
@@ -546,7 +546,7 @@ module _ (s : List ℕ) where
       leaf_took d at 116 true_word m a.here refl tt refl (later refl (omega arith) (word_end (116 ∷ 114 ∷ 117 ∷ 101 ∷ []) at l m h e (k, g, w)))
 
   -- a number or a string
-  last_end : (d at : ℕ) (l m : List ℕ) → drop at s ≡ l → Lead (G.number / G.string) l m → Stop (head m) → Took (value_at d s) at m
+  last_end : (d at : ℕ) (l m : List ℕ) → drop at s ≡ l → Lead (G.number // G.string) l m → Stop (head m) → Took (value_at d s) at m
   unfolding kind_of is_ws value_of
   last_end d at l m e (inl w) n =
       let f = number-first l m w in
@@ -617,12 +617,12 @@ module _ (s : List ℕ) where
       document_is d r.end (ap (value_at d s) (sym p.same) ∙ r.is) (sym r.same ∙ sym q.same ∙ ap (ws s) c ∙ end-blank)
 
   -- an array or an object
-  container-first : (k j : List ℕ) (at d : ℕ) → at ≤ length s → drop at s ≡ k → Lead (object_over (value d) / array_over (value d)) k j → opens (byte s (ws s at)) ≡ true
+  container-first : (k j : List ℕ) (at d : ℕ) → at ≤ length s → drop at s ≡ k → Lead (object_over (value d) // array_over (value d)) k j → opens (byte s (ws s at)) ≡ true
   unfolding opens is_ws
   container-first k j at d h e (inl (i, g, w)) = ap opens (token at 123 k i refl h e g).here
   container-first k j at d h e (inr (i, g, w)) = ap opens (token at 91 k i refl h e g).here
 
-  as-value : {k j : List ℕ} → Lead (object_over (value 15) / array_over (value 15)) k j → Lead (value 16) k j
+  as-value : {k j : List ℕ} → Lead (object_over (value 15) // array_over (value 15)) k j → Lead (value 16) k j
   unfolding value
   as-value (inl w) = inr (inr (inr (inl w)))
   as-value (inr w) = inr (inr (inr (inr (inl w))))

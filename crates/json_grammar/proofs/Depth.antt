@@ -2,7 +2,7 @@
 use Prim.Native.Nat.{ℕ, suc}
 use mathlib.Core.Path.{◌≡◌, refl}
 use mathlib.Core.List.{List}
-use Rattle.abnf.specs.Abnf.{◌·◌, Abnf, ◌/◌, ∗◌, opt}
+use Rattle.abnf.specs.Abnf.{◌·◌, Abnf, ◌//◌, ∗◌, opt}
 use Rattle.abnf.proofs.Lead as L
 use Rattle.json_text.specs.Bytes.{ws, and_then}
 use Rattle.json_text.specs.Value.{value_at, at_end, document_of}
@@ -29,7 +29,7 @@ unfoldable pub value : ℕ → Json
 value d = L.expand G.rules d G.value
 
 -- the depth d is spent on the arrays and objects around
-deeper : (d : ℕ) → value (suc d) ≡ G.false / G.null / G.true / object_over (value d) / array_over (value d) / G.number / G.string
+deeper : (d : ℕ) → value (suc d) ≡ G.false // G.null // G.true // object_over (value d) // array_over (value d) // G.number // G.string
 unfolding value
 deeper d = refl
 
@@ -37,7 +37,7 @@ text : (d : ℕ) → L.expand G.rules d G.JSON-text ≡ G.ws · value d · G.ws
 unfolding value
 text d = refl
 
-container : (d : ℕ) → L.expand G.rules (suc d) G.container ≡ G.ws · (object_over (value d) / array_over (value d)) · G.ws
+container : (d : ℕ) → L.expand G.rules (suc d) G.container ≡ G.ws · (object_over (value d) // array_over (value d)) · G.ws
 unfolding value
 container d = refl
 

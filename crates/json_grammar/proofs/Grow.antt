@@ -7,7 +7,7 @@ use mathlib.Core.List.{List, [], ◌∷◌, ◌++◌, append_assoc, append-nil}
 use mathlib.Core.Bool.{Bool, true, false}
 use lib.Dec.{leb}
 use borrow.Author.Tests.{lt-leb}
-use Rattle.abnf.specs.Abnf.{◌–◌, ε, ◌·◌, ◌/◌, ∗◌, rule, Words, byte, nothing, join, left, right, none, more, named}
+use Rattle.abnf.specs.Abnf.{◌–◌, ε, ◌·◌, ◌//◌, ∗◌, rule, Words, byte, nothing, join, left, right, none, more, named}
 use Rattle.text.proofs.Utf8Place.{AllHigh, ends_high, HighAfter}
 use Rattle.json_grammar.specs.Rfc8259 as G
 use Rattle.json_grammar.proofs.Depth.{Json}
@@ -62,7 +62,7 @@ abbrev Safe : (G.Name → Type 0) → Json → Type 0
 Safe R (lo – hi) = hi < 128
 Safe R ε = Unit {0}
 Safe R (a · b) = Safe R a × Safe R b
-Safe R (a / b) = Safe R a × Safe R b
+Safe R (a // b) = Safe R a × Safe R b
 Safe R (∗ a) = Safe R a ⊎ Repeats a
 Safe R (rule n) = R n
 

@@ -22,7 +22,7 @@ use Rattle.json_text.specs.declared.string.State.TheVariants.{Plain, Escape, Hex
 use Rattle.json_text.specs.declared.string.Move.{Move}
 use Rattle.json_text.specs.declared.string.Move.TheVariants.{Go, Shut, Stuck}
 use Rattle.json_text.proofs.Bytes.{split, both, inside=}
-use Rattle.abnf.specs.Abnf.{ε, ◌·◌, ◌–◌, ◌/◌, ∗◌, x, opt, some, lit}
+use Rattle.abnf.specs.Abnf.{ε, ◌·◌, ◌–◌, ◌//◌, ∗◌, x, opt, some, lit}
 use Rattle.json_grammar.specs.Rfc8259 as G
 use Rattle.abnf.proofs.Lead.{Many, over, again, expand}
 use Rattle.json_grammar.proofs.Depth.{Json, Lead, array_over, member_over, object_over, value, document_at, document_16}
@@ -48,7 +48,7 @@ module _ (b : ℕ) (m : List ℕ) where
   lead_in : (lo hi : ℕ) → in_range lo hi b ≡ true → Lead (lo – hi) (b ∷ m) m
   lead_in lo hi e = let q = range_is lo hi b e in (b, q.0, q.1, refl)
 
-  lead-ws : is_ws b ≡ true → Lead (x 0x20 / x 0x09 / x 0x0A / x 0x0D) (b ∷ m) m
+  lead-ws : is_ws b ≡ true → Lead (x 0x20 // x 0x09 // x 0x0A // x 0x0D) (b ∷ m) m
   unfolding is_ws
   lead-ws e =
       or_cases _ _ e (λ p. inl (lead-x 32 p)) λ e1.
@@ -72,7 +72,7 @@ run-lead p g f (b ∷ bs) = let t = run-lead p g f bs in both (p b) (λ e. rw (e
 
 -- the rest of a string from each state
 abbrev pub escaped : Json
-escaped = x 0x22 / x 0x5C / x 0x2F / x 0x62 / x 0x66 / x 0x6E / x 0x72 / x 0x74 / x 0x75 · G.HEXDIG · G.HEXDIG · G.HEXDIG · G.HEXDIG
+escaped = x 0x22 // x 0x5C // x 0x2F // x 0x62 // x 0x66 // x 0x6E // x 0x72 // x 0x74 // x 0x75 · G.HEXDIG · G.HEXDIG · G.HEXDIG · G.HEXDIG
 
 abbrev pub Rest : State → Json
 Rest Plain = ∗ G.char · x 0x22
@@ -218,7 +218,7 @@ module _ (s : List ℕ) where
 
   at-ws : (at : ℕ) → Lead G.ws (drop at s) (drop (ws s at) s)
   unfolding ws past
-  at-ws at = rw (drop-drop (run is_ws (drop at s)) at s) at (run-lead is_ws (x 0x20 / x 0x09 / x 0x0A / x 0x0D) lead-ws (drop at s))
+  at-ws at = rw (drop-drop (run is_ws (drop at s)) at s) at (run-lead is_ws (x 0x20 // x 0x09 // x 0x0A // x 0x0D) lead-ws (drop at s))
 
   at-digits : (at : ℕ) → Lead (∗ G.DIGIT) (drop at s) (drop (digits_end s at) s)
   unfolding digits_end past
@@ -275,20 +275,20 @@ module _ (s : List ℕ) where
   unfolding optional is_minus
   minus-sound at = both (eqb (byte s at) 45) (λ e. rw (e, optional) (inl (at_x at 45 e (omega arith)))) (λ e. rw (e, optional) (inr refl))
 
-  sign-sound : (at : ℕ) → Lead (opt (x 0x2D / x 0x2B)) (drop at s) (drop (optional is_sign s at) s)
+  sign-sound : (at : ℕ) → Lead (opt (x 0x2D // x 0x2B)) (drop at s) (drop (optional is_sign s at) s)
   unfolding optional is_sign
   sign-sound at = both (is_sign (byte s at))
       (λ e. rw (e, optional) (or_cases _ _ e (λ p. inl (inr (at_x at 43 p (omega arith)))) (λ p. inl (inl (at_x at 45 p (omega arith))))))
       (λ e. rw (e, optional) (inr refl))
 
-  exp-byte : (at : ℕ) → is_exp (byte s at) ≡ true → Lead (x 0x65 / x 0x45) (drop at s) (drop (at + 1) s)
+  exp-byte : (at : ℕ) → is_exp (byte s at) ≡ true → Lead (x 0x65 // x 0x45) (drop at s) (drop (at + 1) s)
   unfolding is_exp
   exp-byte at e = or_cases _ _ e (λ p. inr (at_x at 69 p (omega arith))) (λ p. inl (at_x at 101 p (omega arith)))
 
   exp-sound : (at : ℕ) → Sound (opt G.exp) at (exp_at s at)
   unfolding exp_at
   exp-sound at = let j : ℕ = optional is_sign s (at + 1) in both (is_exp (byte s at))
-      (λ e. rw (e, exp_at) (past_word (G.e · opt (G.minus / G.plus)) (some G.DIGIT) (opt G.exp) (λ k l m u v. inl (u.0, u.1, (l, u.2, v))) at j (drop (at + 1) s, exp-byte at e, sign-sound (at + 1)) (some_digits s j) (some-sound j)))
+      (λ e. rw (e, exp_at) (past_word (G.e · opt (G.minus // G.plus)) (some G.DIGIT) (opt G.exp) (λ k l m u v. inl (u.0, u.1, (l, u.2, v))) at j (drop (at + 1) s, exp-byte at e, sign-sound (at + 1)) (some_digits s j) (some-sound j)))
       (λ e. rw (e, exp_at) (inr refl))
 
   number-sound : (at : ℕ) → Sound G.number at (number_at s at)
@@ -445,18 +445,18 @@ module _ (s : List ℕ) where
   document-sound d = around d (value d) (value-sound d (ws s 0))
 
   -- an array or an object between white space
-  container-value : (d at : ℕ) → opens (byte s at) ≡ true → Sound (object_over (value d) / array_over (value d)) at (value_at (suc d) s at)
+  container-value : (d at : ℕ) → opens (byte s at) ≡ true → Sound (object_over (value d) // array_over (value d)) at (value_at (suc d) s at)
   unfolding value_at kind_of value_of opens
   container-value d at e =
       let a : ℕ → Scan = λ i. array_of (λ j. value_at d s j) s i in
       let o : ℕ → Scan = λ i. object_of (λ j. value_at d s j) s i in
       or_cases (eqb (byte s at) 91) (eqb (byte s at) 123) e
-      (λ p. rw p (up (array_over (value d)) (object_over (value d) / array_over (value d)) (λ l r w. inr w) at (a at) (array-sound (value d) (λ j. value_at d s j) (some-value d) (λ j. value-sound d j) at p)))
-      (λ p. let q : byte s at ≡ 123 = eqb-true _ _ p in rw q (up (object_over (value d)) (object_over (value d) / array_over (value d)) (λ l r w. inl w) at (o at) (object-sound (value d) (λ j. value_at d s j) (some-value d) (λ j. value-sound d j) at p)))
+      (λ p. rw p (up (array_over (value d)) (object_over (value d) // array_over (value d)) (λ l r w. inr w) at (a at) (array-sound (value d) (λ j. value_at d s j) (some-value d) (λ j. value-sound d j) at p)))
+      (λ p. let q : byte s at ≡ 123 = eqb-true _ _ p in rw q (up (object_over (value d)) (object_over (value d) // array_over (value d)) (λ l r w. inl w) at (o at) (object-sound (value d) (λ j. value_at d s j) (some-value d) (λ j. value-sound d j) at p)))
 
   container-sound : opens (byte s (ws s 0)) ≡ true → Sound (expand G.rules 16 G.container) 0 (document_at 16 s)
   unfolding value
-  container-sound e = around 16 (object_over (value 15) / array_over (value 15)) (container-value 15 (ws s 0) e)
+  container-sound e = around 16 (object_over (value 15) // array_over (value 15)) (container-value 15 (ws s 0) e)
 
   to_end : (a : Json) (d : ℕ) → document_at d s ≡ End (length s) → Sound a 0 (document_at d s) → Lead a s []
   to_end a d e w = rw (drop-length s) at (subst (SoundFrom a s) e w)

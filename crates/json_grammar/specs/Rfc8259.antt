@@ -2,14 +2,14 @@
 -- it uses; `object` and `array`, which come to stand within themselves, are used by name. The grammar is over bytes; that a JSON text is
 -- UTF-8 (RFC 8259, 8.1) is judged apart, before (crate text, `is_utf8`).
 use Rattle.std.specs.Prelude.{ℕ, List, [], ◌∷◌}
-use Rattle.abnf.specs.Abnf.{◌·◌, Abnf, ◌–◌, ◌/◌, ∗◌, rule, Words, x, opt, some, lit}
+use Rattle.abnf.specs.Abnf.{◌·◌, Abnf, ◌–◌, ◌//◌, ∗◌, rule, Words, x, opt, some, lit}
 
 pub data Name : Type 0 where
   Object Array : Name
 
 -- 2: ws = *( %x20 / %x09 / %x0A / %x0D )
 abbrev pub ws : Abnf Name
-ws = ∗ (x 0x20 / x 0x09 / x 0x0A / x 0x0D)
+ws = ∗ (x 0x20 // x 0x09 // x 0x0A // x 0x0D)
 
 -- 2: the six structural characters
 abbrev pub begin-array : Abnf Name
@@ -51,7 +51,7 @@ abbrev pub decimal-point : Abnf Name
 decimal-point = x 0x2E
 
 abbrev pub e : Abnf Name
-e = x 0x65 / x 0x45
+e = x 0x65 // x 0x45
 
 abbrev pub minus : Abnf Name
 minus = x 0x2D
@@ -63,20 +63,20 @@ abbrev pub zero : Abnf Name
 zero = x 0x30
 
 abbrev pub int : Abnf Name
-int = zero / (digit1-9 · ∗ DIGIT)
+int = zero // (digit1-9 · ∗ DIGIT)
 
 abbrev pub frac : Abnf Name
 frac = decimal-point · some DIGIT
 
 abbrev pub exp : Abnf Name
-exp = e · opt (minus / plus) · some DIGIT
+exp = e · opt (minus // plus) · some DIGIT
 
 abbrev pub number : Abnf Name
 number = opt minus · int · opt frac · opt exp
 
 -- 7: string = quotation-mark *char quotation-mark; HEXDIG is of RFC 5234, whose letters are of either case
 abbrev pub HEXDIG : Abnf Name
-HEXDIG = DIGIT / 0x41 – 0x46 / 0x61 – 0x66
+HEXDIG = DIGIT // 0x41 – 0x46 // 0x61 – 0x66
 
 abbrev pub quotation-mark : Abnf Name
 quotation-mark = x 0x22
@@ -87,10 +87,10 @@ escape = x 0x5C
 -- The RFC's last range is %x5D-10FFFF, of Unicode characters. Over bytes it is %x5D-FF: every byte of a character above 7F is above 7F.
 -- So bytes that are not UTF-8 may stand here too: what refuses them is paper 01's number 10.
 abbrev pub unescaped : Abnf Name
-unescaped = 0x20 – 0x21 / 0x23 – 0x5B / 0x5D – 0xFF
+unescaped = 0x20 – 0x21 // 0x23 – 0x5B // 0x5D – 0xFF
 
 abbrev pub char : Abnf Name
-char = unescaped / escape · (x 0x22 / x 0x5C / x 0x2F / x 0x62 / x 0x66 / x 0x6E / x 0x72 / x 0x74 / x 0x75 · HEXDIG · HEXDIG · HEXDIG · HEXDIG)
+char = unescaped // escape · (x 0x22 // x 0x5C // x 0x2F // x 0x62 // x 0x66 // x 0x6E // x 0x72 // x 0x74 // x 0x75 · HEXDIG · HEXDIG · HEXDIG · HEXDIG)
 
 abbrev pub string : Abnf Name
 string = quotation-mark · ∗ char · quotation-mark
@@ -103,7 +103,7 @@ abbrev pub array : Abnf Name
 array = rule Array
 
 abbrev pub value : Abnf Name
-value = false / null / true / object / array / number / string
+value = false // null // true // object // array // number // string
 
 -- 4: object, member; 5: array
 abbrev pub member : Abnf Name
@@ -125,7 +125,7 @@ JSON d s = Words rules d JSON-text s
 
 -- Paper 01, "json": "one array or object with optional white space around"
 abbrev pub container : Abnf Name
-container = ws · (object / array) · ws
+container = ws · (object // array) · ws
 
 abbrev pub Container : ℕ → List ℕ → Type 0
 Container d s = Words rules d container s

@@ -8,7 +8,7 @@ use mathlib.Core.Bool.{Bool, true, false, ◌||◌}
 use lib.Dec.{leb, eqb}
 use lib.ListN.{length}
 use borrow.Author.Tests.{leb-true, le-leb, eqb-true}
-use Rattle.abnf.specs.Abnf.{◌·◌, ◌/◌, x, opt, some, times, up_to, repeat}
+use Rattle.abnf.specs.Abnf.{◌·◌, ◌//◌, x, opt, some, times, up_to, repeat}
 use Rattle.abnf.proofs.Lead.{Many, over, again, Lead}
 use Rattle.numbers.specs.Digits.{is_digit}
 use Rattle.numbers.specs.Grammar.{DIGIT}
@@ -203,17 +203,17 @@ powered-some c neg [] l = absurd (omega arith)
 powered-some c true (e ∷ es) l = rw append-nil
 powered-some c false (e ∷ es) l = rw append-nil
 
-letter-front : {s r : List ℕ} → Lead {N = ⊥} (x 0x65 / x 0x45) s r → (c : ℕ) × (is_e c ≡ true) × (s ≡ c ∷ r)
+letter-front : {s r : List ℕ} → Lead {N = ⊥} (x 0x65 // x 0x45) s r → (c : ℕ) × (is_e c ≡ true) × (s ≡ c ∷ r)
 letter-front (inl h) = (101, refl, is_byte 101 h)
 letter-front (inr h) = (69, refl, is_byte 69 h)
 
-front-letter : (c : ℕ) (r : List ℕ) → is_e c ≡ true → Lead {N = ⊥} (x 0x65 / x 0x45) (c ∷ r) r
+front-letter : (c : ℕ) (r : List ℕ) → is_e c ≡ true → Lead {N = ⊥} (x 0x65 // x 0x45) (c ∷ r) r
 front-letter c r e = both (eqb c 101) (λ t. inl (at c 101 r (eqb-true c 101 t))) (λ t. inr (at c 69 r (eqb-true c 69 (subst (λ (b : Bool). (b || eqb c 69) ≡ true) t e))))
   where
     at : (c k : ℕ) (r : List ℕ) → c ≡ k → Lead {N = ⊥} (x k) (c ∷ r) r
     at c k r i = (c, omega arith, omega arith, refl)
 
-pub power-front : {s : List ℕ} → Lead (opt ((x 0x65 / x 0x45) · opt (x 0x2D) · repeat 1 3 DIGIT)) s [] → Powered s
+pub power-front : {s : List ℕ} → Lead (opt ((x 0x65 // x 0x45) · opt (x 0x2D) · repeat 1 3 DIGIT)) s [] → Powered s
 power-front (inl h) =
     let c = letter-front h.1 in
     let n = sign-front h.2.1 in
@@ -229,7 +229,7 @@ power-front (inl h) =
     }
 power-front (inr h) = record { c = 101; neg = false; es = []; letter = refl; all = no-digits; few = omega arith; cut = h }
 
-pub front-power : (c : ℕ) (neg : Bool) (es : List ℕ) → is_e c ≡ true → all_digits es ≡ true → length es ≤ 3 → Lead (opt ((x 0x65 / x 0x45) · opt (x 0x2D) · repeat 1 3 DIGIT)) (powered c neg es) []
+pub front-power : (c : ℕ) (neg : Bool) (es : List ℕ) → is_e c ≡ true → all_digits es ≡ true → length es ≤ 3 → Lead (opt ((x 0x65 // x 0x45) · opt (x 0x2D) · repeat 1 3 DIGIT)) (powered c neg es) []
 front-power c neg [] i e l = inr refl
 front-power c neg (d ∷ es) i e l =
     inl

@@ -11,7 +11,7 @@ use lib.ListN.{length, get_or}
 use lib.IntN.{ℤ}
 use lib.Signed.{le_z}
 use borrow.Author.Tests.{lt-ltb, eqb-true, not-true}
-use Rattle.abnf.specs.Abnf.{Abnf, ◌–◌, ε, ◌·◌, ◌/◌, ∗◌, rule, Words, byte, nothing, join, left, right, more, no_rules, ◌∈◌, x, opt}
+use Rattle.abnf.specs.Abnf.{Abnf, ◌–◌, ε, ◌·◌, ◌//◌, ∗◌, rule, Words, byte, nothing, join, left, right, more, no_rules, ◌∈◌, x, opt}
 use Rattle.abnf.specs.Abnf as abnf
 use Rattle.abnf.specs.Accepts.{in_range, is_empty, again, starts, accepts}
 use Rattle.abnf.proofs.Accepts.{word-accepts, accepts-word}
@@ -39,7 +39,7 @@ unfoldable pub avoids : ℕ → Abnf ⊥ → Bool
 avoids c (lo – hi) = not (in_range lo hi c)
 avoids c ε = true
 avoids c (a · b) = avoids c a && avoids c b
-avoids c (a / b) = avoids c a && avoids c b
+avoids c (a // b) = avoids c a && avoids c b
 avoids c (∗ a) = avoids c a
 avoids c (rule n) = absurd n
 

@@ -6,7 +6,7 @@ use mathlib.Core.Logic.{◌↔◌}
 use mathlib.Core.List.{List, [], ◌∷◌}
 use mathlib.Core.Bool.{true}
 use borrow.Author.Tests.{eqb-true}
-use Rattle.abnf.specs.Abnf.{Abnf, ◌–◌, ◌/◌, ◌∈◌, x, byte, left, right}
+use Rattle.abnf.specs.Abnf.{Abnf, ◌–◌, ◌//◌, ◌∈◌, x, byte, left, right}
 use Rattle.abnf.specs.Accepts.{in_range}
 use Rattle.text.specs.Ids.{id_byte, is_id, ID}
 use Rattle.text.proofs.Bytes.{or_cases, in_range_lem}
@@ -14,7 +14,7 @@ use Rattle.text.proofs.Ids.{lower, digit, dash, is-id, id_sized}
 use Rattle.text.proofs.Repeats.{Char, repeat_in, repeat_out}
 
 abbrev id_char : Abnf ⊥
-id_char = 0x61 – 0x7A / 0x30 – 0x39 / x 0x2D
+id_char = 0x61 – 0x7A // 0x30 – 0x39 // x 0x2D
 
 in-char : (b : ℕ) → id_byte b ≡ true → (b ∷ []) ∈ id_char
 unfolding id_byte

@@ -1,6 +1,6 @@
 -- IDs, and what reading one answers.
 use Rattle.std.specs.Prelude.{ℕ, ◌-◌, List, [], ◌++◌, Bool, true, false, ◌&&◌, ◌||◌, cond, length, replicate, take, leb, eqb}
-use Rattle.abnf.specs.Abnf.{Abnf, ◌–◌, ◌/◌, x, repeat}
+use Rattle.abnf.specs.Abnf.{Abnf, ◌–◌, ◌//◌, x, repeat}
 use Rattle.abnf.specs.Accepts.{in_range}
 use Rattle.text.specs.Bytes.{every}
 use Rattle.text.specs.declared.Id.{Id}
@@ -18,7 +18,7 @@ is_id s = leb 1 (length s) && (leb (length s) id_most && every id_byte s)
 
 -- the same as a grammar: 1*32( %x61-7A / %x30-39 / "-" )
 abbrev pub ID : Abnf ⊥
-ID = repeat 1 id_most (0x61 – 0x7A / 0x30 – 0x39 / x 0x2D)
+ID = repeat 1 id_most (0x61 – 0x7A // 0x30 – 0x39 // x 0x2D)
 
 -- an ID by value: its bytes, with zeros up to `id_most`
 unfoldable pub id_of : List ℕ → Id

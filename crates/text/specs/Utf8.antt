@@ -1,7 +1,7 @@
 -- UTF-8, and rule 10.
 use Rattle.std.specs.Prelude.{ℕ, List, [], ◌∷◌, Bool, ◌&&◌, not, take}
 use Rattle.abnf.specs.Accepts.{accepts}
-use Rattle.abnf.specs.Abnf.{Abnf, ◌–◌, ◌·◌, ◌/◌, ∗◌, x}
+use Rattle.abnf.specs.Abnf.{Abnf, ◌–◌, ◌·◌, ◌//◌, ∗◌, x}
 use Rattle.text.specs.Bytes.{eq_bytes}
 
 -- RFC 3629, section 4, rule by rule:
@@ -24,13 +24,13 @@ abbrev pub UTF8-2 : Abnf ⊥
 UTF8-2 = 0xC2 – 0xDF · UTF8-tail
 
 abbrev pub UTF8-3 : Abnf ⊥
-UTF8-3 = x 0xE0 · 0xA0 – 0xBF · UTF8-tail / 0xE1 – 0xEC · UTF8-tail · UTF8-tail / x 0xED · 0x80 – 0x9F · UTF8-tail / 0xEE – 0xEF · UTF8-tail · UTF8-tail
+UTF8-3 = x 0xE0 · 0xA0 – 0xBF · UTF8-tail // 0xE1 – 0xEC · UTF8-tail · UTF8-tail // x 0xED · 0x80 – 0x9F · UTF8-tail // 0xEE – 0xEF · UTF8-tail · UTF8-tail
 
 abbrev pub UTF8-4 : Abnf ⊥
-UTF8-4 = x 0xF0 · 0x90 – 0xBF · UTF8-tail · UTF8-tail / 0xF1 – 0xF3 · UTF8-tail · UTF8-tail · UTF8-tail / x 0xF4 · 0x80 – 0x8F · UTF8-tail · UTF8-tail
+UTF8-4 = x 0xF0 · 0x90 – 0xBF · UTF8-tail · UTF8-tail // 0xF1 – 0xF3 · UTF8-tail · UTF8-tail · UTF8-tail // x 0xF4 · 0x80 – 0x8F · UTF8-tail · UTF8-tail
 
 abbrev pub UTF8-char : Abnf ⊥
-UTF8-char = UTF8-1 / UTF8-2 / UTF8-3 / UTF8-4
+UTF8-char = UTF8-1 // UTF8-2 // UTF8-3 // UTF8-4
 
 abbrev pub UTF8-octets : Abnf ⊥
 UTF8-octets = ∗ UTF8-char

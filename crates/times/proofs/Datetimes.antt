@@ -9,7 +9,7 @@ use lib.ListN.{length, drop, take}
 use lib.Seq.{drop-cons}
 use lib.Dec.{leb, ltb, eqb, lit<}
 use borrow.Author.Tests.{leb-true, le-leb, lt-leb, ne_eqb, eqb-true, ltb-true, ltb-false}
-use Rattle.abnf.specs.Abnf.{◌·◌, ◌/◌, x, opt, times, repeat}
+use Rattle.abnf.specs.Abnf.{◌·◌, ◌//◌, x, opt, times, repeat}
 use Rattle.abnf.specs.Accepts.{in_range, is_empty, starts, accepts}
 use Rattle.abnf.proofs.Accepts.{and_both}
 use Rattle.abnf.proofs.Steps.{both, range-true, starts-x, starts_either, starts-opt, empty_at}
@@ -105,13 +105,13 @@ starts-zone s at =
     let z : starts (x 90) is_empty (drop at s) ≡ (eqb b 90 && leb (length s) (at + 1)) = starts-x is_empty s at 90 (lit< tt) ∙ and_on (eqb b 90) (empty_at s (at + 1)) in
     let t : starts clock is_empty (drop (at + 1) s) ≡ (is_clock s (at + 1) && leb (length s) (at + 6)) =
     starts-clock is_empty s (at + 1) ∙ and_on (is_clock s (at + 1)) (empty_at s (at + 1 + 5) ∙ ap (λ (n : ℕ). leb (length s) n) six) in
-    let f : starts ((x 43 / x 45) · clock) is_empty (drop at s) ≡ (is_sign b && (is_clock s (at + 1) && leb (length s) (at + 6))) =
+    let f : starts ((x 43 // x 45) · clock) is_empty (drop at s) ≡ (is_sign b && (is_clock s (at + 1) && leb (length s) (at + 6))) =
     starts_either (x 43) (x 45) (λ r. starts clock is_empty r) (drop at s)
     ∙ cc (starts-x (λ r. starts clock is_empty r) s at 43 (lit< tt), starts-x (λ r. starts clock is_empty r) s at 45 (lit< tt))
     ∙ share (eqb b 43) (eqb b 45) (starts clock is_empty (drop (at + 1) s))
     ∙ and_on (is_sign b) t in
     starts-opt zone is_empty (drop at s)
-    ∙ cc (starts_either (x 90) ((x 43 / x 45) · clock) is_empty (drop at s), z, f, empty_at s at)
+    ∙ cc (starts_either (x 90) ((x 43 // x 45) · clock) is_empty (drop at s), z, f, empty_at s at)
     ∙ fit (eqb b 90) (is_sign b) (leb (length s) (at + 1)) (is_clock s (at + 1) && leb (length s) (at + 6)) (leb (length s) at) (λ e. sign-not_z b (eqb-true b 90 e))
   where
     share : (a b c : Bool) → ((a && c) || (b && c)) ≡ ((a || b) && c)

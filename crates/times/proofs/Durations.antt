@@ -7,7 +7,7 @@ use mathlib.Core.Bool.{Bool, true, false, not, ◌&&◌, ◌||◌, and-false, or
 use lib.ListN.{length, drop}
 use lib.Dec.{leb, eqb, lit<}
 use borrow.Author.Tests.{leb-true, eq-eqb, ne_eqb, eqb-true}
-use Rattle.abnf.specs.Abnf.{◌·◌, ◌/◌, x, opt}
+use Rattle.abnf.specs.Abnf.{◌·◌, ◌//◌, x, opt}
 use Rattle.abnf.specs.Accepts.{is_empty, starts}
 use Rattle.abnf.proofs.Accepts.{and_both}
 use Rattle.abnf.proofs.Steps.{both, range-true, below_range, starts-x, starts_either, starts-opt, empty_at}
@@ -151,11 +151,11 @@ pub duration_reads : (s : List ℕ) → is_duration s
     && (not (eqb (span_end s (span_end s (span_end s 2 72) 77) 83) 2) && leb (length s) (span_end s (span_end s (span_end s 2 72) 77) 83))))
 unfolding is_duration starts past
 duration_reads s =
-    starts-x (λ r. starts (x 84 · (hours · opt minutes · opt seconds / minutes · opt seconds / seconds)) is_empty r) s 0 80 (lit< tt)
+    starts-x (λ r. starts (x 84 · (hours · opt minutes · opt seconds // minutes · opt seconds // seconds)) is_empty r) s 0 80 (lit< tt)
     ∙ and_on (eqb (byte_at s 0) 80)
-    (starts-x (λ r. starts (hours · opt minutes · opt seconds / minutes · opt seconds / seconds) is_empty r) s 1 84 (lit< tt)
+    (starts-x (λ r. starts (hours · opt minutes · opt seconds // minutes · opt seconds // seconds) is_empty r) s 1 84 (lit< tt)
     ∙ and_on (eqb (byte_at s 1) 84)
-    (starts_either (hours · opt minutes · opt seconds) (minutes · opt seconds / seconds) is_empty (drop 2 s)
+    (starts_either (hours · opt minutes · opt seconds) (minutes · opt seconds // seconds) is_empty (drop 2 s)
     ∙ or_of
     (starts-span 72 (lit< tt) (lit< tt) (starts (opt minutes · opt seconds) is_empty) s 2
     ∙ and_on (there s 2 72) (ends-two s (span_end s 2 72) 77 83 (lit< tt) (lit< tt) (lit< tt) (lit< tt) (λ z. omega arith)))

@@ -1,6 +1,6 @@
 -- Paper 01, "Payloads of properties": "datetime (our profile of ISO 8601)".
 use Rattle.std.specs.Prelude.{ℕ, ◌+◌, ◌*◌, ◌-◌, ◌%◌, List, [], ◌∷◌, Bool, not, ◌&&◌, ◌||◌, cond, take, drop, eqb, leb}
-use Rattle.abnf.specs.Abnf.{Abnf, ◌–◌, ◌·◌, ◌/◌, x, opt, times, repeat}
+use Rattle.abnf.specs.Abnf.{Abnf, ◌–◌, ◌·◌, ◌//◌, x, opt, times, repeat}
 use Rattle.abnf.specs.Accepts.{accepts}
 
 abbrev pub DIGIT : Abnf ⊥
@@ -8,7 +8,7 @@ DIGIT = 48 – 57
 
 -- "hour to 23": 00 to 19, 20 to 23
 abbrev pub hour : Abnf ⊥
-hour = 48 – 49 · DIGIT / x 50 · 48 – 51
+hour = 48 – 49 · DIGIT // x 50 · 48 – 51
 
 -- "minute and second to 59"
 abbrev pub sixtieth : Abnf ⊥
@@ -28,7 +28,7 @@ fraction = x 46 · repeat 1 9 DIGIT
 
 -- "`Z` or sign `HH:MM`", "the offset's hour and minute likewise"
 abbrev pub zone : Abnf ⊥
-zone = x 90 / (x 43 / x 45) · clock
+zone = x 90 // (x 43 // x 45) · clock
 
 -- `YYYY-MM-DDTHH:MM:SS`, optional fraction, optional zone
 abbrev pub datetime : Abnf ⊥

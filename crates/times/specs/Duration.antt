@@ -1,6 +1,6 @@
 -- Paper 01, "Payloads of properties": "duration: `PT`, then at least one of hours `H`, minutes `M`, seconds `S` in that order, 1 to 9 digits each".
 use Rattle.std.specs.Prelude.{ℕ, List, Bool}
-use Rattle.abnf.specs.Abnf.{Abnf, ◌·◌, ◌/◌, x, opt, repeat}
+use Rattle.abnf.specs.Abnf.{Abnf, ◌·◌, ◌//◌, x, opt, repeat}
 use Rattle.abnf.specs.Accepts.{accepts}
 use Rattle.times.specs.Datetime.{DIGIT}
 
@@ -18,7 +18,7 @@ abbrev pub seconds : Abnf ⊥
 seconds = amount 83
 
 abbrev pub duration : Abnf ⊥
-duration = x 80 · x 84 · (hours · opt minutes · opt seconds / minutes · opt seconds / seconds)
+duration = x 80 · x 84 · (hours · opt minutes · opt seconds // minutes · opt seconds // seconds)
 
 unfoldable pub is_duration : List ℕ → Bool
 unfolding accepts

@@ -19,7 +19,7 @@ use Rattle.text.proofs.Bytes.{eq_bytes-true}
 use Rattle.text.specs.declared.Place.{Place}
 use Rattle.topic.specs.declared.Topic.{Topic}
 use Rattle.topic.specs.declared.Topic.TheVariants.{Refused, State, Description, Value, Set, Target, Alert, Log, Broadcast, Other}
-use Rattle.topic.specs.Words.{slash, five, $state, $description, set_word, $target, $alert, $log, $broadcast, log_levels, reserved}
+use Rattle.topic.specs.Words.{slash, five, state_word, description_word, set_word, target_word, alert_word, log_word, broadcast_word, log_levels, reserved}
 use Rattle.topic.specs.Form.{Form, alert, log, other}
 use Rattle.topic.specs.Topics.{one_of, dollar_id, other_word, filled, fits, end, each, when◌give◌else◌, level, form_of, read_levels, read_topic}
 use Rattle.text.specs.Places.{bytes_at, Within}
@@ -58,19 +58,19 @@ module _ (t : List ℕ) (at s e n : ℕ) (q : Found s e n ≡ part_at slash t at
 
 module _ (t : List ℕ) (d : Place) (at : ℕ) (i : IdAt t d) where
   -- `$state`, `$description`
-  pub state_no : at ≤ length t → Shows t d.start (form_of (bytes_at t d ∷ $state ∷ levels_from t at)) (Refused 9)
+  pub state_no : at ≤ length t → Shows t d.start (form_of (bytes_at t d ∷ state_word ∷ levels_from t at)) (Refused 9)
   unfolding when◌give◌else◌
   state_no h = refuse t 9 _ (state-fits (bytes_at t d) i.id (levels_from t at) ∙ rw (levels-more t at h))
 
-  pub state_yes : length t < at → Shows t d.start (form_of (bytes_at t d ∷ $state ∷ levels_from t at)) (State d)
+  pub state_yes : length t < at → Shows t d.start (form_of (bytes_at t d ∷ state_word ∷ levels_from t at)) (State d)
   unfolding when◌give◌else◌ end meaning
   state_yes h = record { says = sym (state-fits (bytes_at t d) i.id (levels_from t at) ∙ rw (levels-past t at h)); places = i.within; stand = refl }
 
-  pub description_no : at ≤ length t → Shows t d.start (form_of (bytes_at t d ∷ $description ∷ levels_from t at)) (Refused 9)
+  pub description_no : at ≤ length t → Shows t d.start (form_of (bytes_at t d ∷ description_word ∷ levels_from t at)) (Refused 9)
   unfolding when◌give◌else◌
   description_no h = refuse t 9 _ (description-fits (bytes_at t d) i.id (levels_from t at) ∙ rw (levels-more t at h))
 
-  pub description_yes : length t < at → Shows t d.start (form_of (bytes_at t d ∷ $description ∷ levels_from t at)) (Description d)
+  pub description_yes : length t < at → Shows t d.start (form_of (bytes_at t d ∷ description_word ∷ levels_from t at)) (Description d)
   unfolding when◌give◌else◌ end meaning
   description_yes h = record { says = sym (description-fits (bytes_at t d) i.id (levels_from t at) ∙ rw (levels-past t at h)); places = i.within; stand = refl }
 
@@ -100,37 +100,37 @@ module _ (t d : List ℕ) (at b : ℕ) (w : List ℕ) (test : List ℕ → Bool)
 
 -- `$alert`, `$log`
 module _ (t : List ℕ) (d : Place) (at : ℕ) (i : IdAt t d) where
-  pub alert-none : Nothing ≡ part_at slash t at → Shows t d.start (form_of (bytes_at t d ∷ $alert ∷ levels_from t at)) (Refused 9)
-  alert-none = one_none t (bytes_at t d) at d.start $alert is_id (alert (bytes_at t d)) (alert-fits (bytes_at t d) i.id)
+  pub alert-none : Nothing ≡ part_at slash t at → Shows t d.start (form_of (bytes_at t d ∷ alert_word ∷ levels_from t at)) (Refused 9)
+  alert-none = one_none t (bytes_at t d) at d.start alert_word is_id (alert (bytes_at t d)) (alert-fits (bytes_at t d) i.id)
 
-  pub log-none : Nothing ≡ part_at slash t at → Shows t d.start (form_of (bytes_at t d ∷ $log ∷ levels_from t at)) (Refused 9)
-  log-none = one_none t (bytes_at t d) at d.start $log (one_of log_levels) (log (bytes_at t d)) (log-fits (bytes_at t d) i.id)
+  pub log-none : Nothing ≡ part_at slash t at → Shows t d.start (form_of (bytes_at t d ∷ log_word ∷ levels_from t at)) (Refused 9)
+  log-none = one_none t (bytes_at t d) at d.start log_word (one_of log_levels) (log (bytes_at t d)) (log-fits (bytes_at t d) i.id)
 
   module _ (s e n : ℕ) (q : Found s e n ≡ part_at slash t at) where
-    pub alert-long : n ≤ length t → Shows t d.start (form_of (bytes_at t d ∷ $alert ∷ levels_from t at)) (Refused 9)
-    alert-long = one-long t (bytes_at t d) at d.start $alert is_id (alert (bytes_at t d)) (alert-fits (bytes_at t d) i.id) s e n q
+    pub alert-long : n ≤ length t → Shows t d.start (form_of (bytes_at t d ∷ alert_word ∷ levels_from t at)) (Refused 9)
+    alert-long = one-long t (bytes_at t d) at d.start alert_word is_id (alert (bytes_at t d)) (alert-fits (bytes_at t d) i.id) s e n q
 
-    pub alert-bad : is_id (slice t s e) ≡ false → Shows t d.start (form_of (bytes_at t d ∷ $alert ∷ levels_from t at)) (Refused 9)
-    alert-bad = one-bad t (bytes_at t d) at d.start $alert is_id (alert (bytes_at t d)) (alert-fits (bytes_at t d) i.id) s e n q
+    pub alert-bad : is_id (slice t s e) ≡ false → Shows t d.start (form_of (bytes_at t d ∷ alert_word ∷ levels_from t at)) (Refused 9)
+    alert-bad = one-bad t (bytes_at t d) at d.start alert_word is_id (alert (bytes_at t d)) (alert-fits (bytes_at t d) i.id) s e n q
 
-    pub alert_yes : length t < n → is_id (slice t s e) ≡ true → Shows t d.start (form_of (bytes_at t d ∷ $alert ∷ levels_from t at)) (Alert d (record { start = s; end = e }))
+    pub alert_yes : length t < n → is_id (slice t s e) ≡ true → Shows t d.start (form_of (bytes_at t d ∷ alert_word ∷ levels_from t at)) (Alert d (record { start = s; end = e }))
     unfolding meaning
     alert_yes h k = record {
-      says = sym (one_row t (bytes_at t d) at d.start $alert is_id (alert (bytes_at t d)) (alert-fits (bytes_at t d) i.id) s e n q h k);
+      says = sym (one_row t (bytes_at t d) at d.start alert_word is_id (alert (bytes_at t d)) (alert-fits (bytes_at t d) i.id) s e n q h k);
       places = (i.within, placed t at s e n q);
       stand = (refl, ends t at s e n q h);
     }
 
-    pub log-long : n ≤ length t → Shows t d.start (form_of (bytes_at t d ∷ $log ∷ levels_from t at)) (Refused 9)
-    log-long = one-long t (bytes_at t d) at d.start $log (one_of log_levels) (log (bytes_at t d)) (log-fits (bytes_at t d) i.id) s e n q
+    pub log-long : n ≤ length t → Shows t d.start (form_of (bytes_at t d ∷ log_word ∷ levels_from t at)) (Refused 9)
+    log-long = one-long t (bytes_at t d) at d.start log_word (one_of log_levels) (log (bytes_at t d)) (log-fits (bytes_at t d) i.id) s e n q
 
-    pub log-bad : one_of log_levels (slice t s e) ≡ false → Shows t d.start (form_of (bytes_at t d ∷ $log ∷ levels_from t at)) (Refused 9)
-    log-bad = one-bad t (bytes_at t d) at d.start $log (one_of log_levels) (log (bytes_at t d)) (log-fits (bytes_at t d) i.id) s e n q
+    pub log-bad : one_of log_levels (slice t s e) ≡ false → Shows t d.start (form_of (bytes_at t d ∷ log_word ∷ levels_from t at)) (Refused 9)
+    log-bad = one-bad t (bytes_at t d) at d.start log_word (one_of log_levels) (log (bytes_at t d)) (log-fits (bytes_at t d) i.id) s e n q
 
-    pub log_yes : length t < n → one_of log_levels (slice t s e) ≡ true → Shows t d.start (form_of (bytes_at t d ∷ $log ∷ levels_from t at)) (Log d (record { start = s; end = e }))
+    pub log_yes : length t < n → one_of log_levels (slice t s e) ≡ true → Shows t d.start (form_of (bytes_at t d ∷ log_word ∷ levels_from t at)) (Log d (record { start = s; end = e }))
     unfolding meaning
     log_yes h k = record {
-      says = sym (one_row t (bytes_at t d) at d.start $log (one_of log_levels) (log (bytes_at t d)) (log-fits (bytes_at t d) i.id) s e n q h k);
+      says = sym (one_row t (bytes_at t d) at d.start log_word (one_of log_levels) (log (bytes_at t d)) (log-fits (bytes_at t d) i.id) s e n q h k);
       places = (i.within, placed t at s e n q);
       stand = (refl, ends t at s e n q h);
     }
@@ -161,7 +161,7 @@ module _ (t : List ℕ) (d n p : Place) (at : ℕ) (i : IdAt t d) (j : IdAt t n)
     pub property-more : m ≤ length t → Shows t d.start (form_of (bytes_at t d ∷ bytes_at t n ∷ bytes_at t p ∷ levels_from t at)) (Refused 9)
     property-more h = refuse t 9 _ (rw (levels-step t at s e m q) (property-long (bytes_at t d) i.id (bytes_at t n) j.id (bytes_at t p) k.id (slice t s e) (levels_from t m) (levels-more t m h)))
 
-    pub property_no : eq_bytes (slice t s e) set_word ≡ false → eq_bytes (slice t s e) $target ≡ false → Shows t d.start (form_of (bytes_at t d ∷ bytes_at t n ∷ bytes_at t p ∷ levels_from t at)) (Refused 9)
+    pub property_no : eq_bytes (slice t s e) set_word ≡ false → eq_bytes (slice t s e) target_word ≡ false → Shows t d.start (form_of (bytes_at t d ∷ bytes_at t n ∷ bytes_at t p ∷ levels_from t at)) (Refused 9)
     property_no f g = refuse t 9 _ (rw (levels-step t at s e m q) (property-bad (bytes_at t d) i.id (bytes_at t n) j.id (bytes_at t p) k.id (slice t s e) (levels_from t m) f g))
 
     module _ (h : length t < m) where
@@ -176,7 +176,7 @@ module _ (t : List ℕ) (d n p : Place) (at : ℕ) (i : IdAt t d) (j : IdAt t n)
         stand = (refl, a, b);
       }
 
-      pub target_yes : eq_bytes (slice t s e) set_word ≡ false → eq_bytes (slice t s e) $target ≡ true → Shows t d.start (form_of (bytes_at t d ∷ bytes_at t n ∷ bytes_at t p ∷ levels_from t at)) (Target d n p)
+      pub target_yes : eq_bytes (slice t s e) set_word ≡ false → eq_bytes (slice t s e) target_word ≡ true → Shows t d.start (form_of (bytes_at t d ∷ bytes_at t n ∷ bytes_at t p ∷ levels_from t at)) (Target d n p)
       unfolding meaning
       target_yes f g = record {
         says = sym (rw last (target_row (bytes_at t d) i.id (bytes_at t n) j.id (bytes_at t p) k.id (slice t s e) f g));
@@ -196,13 +196,13 @@ rest_is test h t at k e = rw (slice-tail t at, levels-here t at k) (rest-levels 
 
 -- `$broadcast`
 module _ (t : List ℕ) (at b : ℕ) where
-  pub broadcast-past : length t < at → Shows t b (form_of ($broadcast ∷ levels_from t at)) (Refused 9)
+  pub broadcast-past : length t < at → Shows t b (form_of (broadcast_word ∷ levels_from t at)) (Refused 9)
   broadcast-past h = refuse t 9 _ (rw (levels-past t at h) broadcast-none)
 
-  pub broadcast_no : each is_id (levels_from t at) ≡ false → Shows t b (form_of ($broadcast ∷ levels_from t at)) (Refused 9)
+  pub broadcast_no : each is_id (levels_from t at) ≡ false → Shows t b (form_of (broadcast_word ∷ levels_from t at)) (Refused 9)
   broadcast_no h = refuse t 9 _ (broadcast-bad (levels_from t at) h)
 
-  pub broadcast_yes : at ≤ length t → each is_id (levels_from t at) ≡ true → Shows t b (form_of ($broadcast ∷ levels_from t at)) (Broadcast (record { start = at; end = length t }))
+  pub broadcast_yes : at ≤ length t → each is_id (levels_from t at) ≡ true → Shows t b (form_of (broadcast_word ∷ levels_from t at)) (Broadcast (record { start = at; end = length t }))
   unfolding meaning is_id
   broadcast_yes h k = record {
     says = rw (rest_is is_id refl t at h k) (sym (broadcast_row (levels_from t at) (levels-more t at h) k));
@@ -273,7 +273,7 @@ pub as-word : (t : List ℕ) (b : ℕ) (d w x : List ℕ) (ls : List (List ℕ))
 as-word t b d w x ls r e h = rw (eq_bytes-true w x e) h
 
 -- no word that `other` excludes
-pub unreserved : (l : List ℕ) → eq_bytes l $state ≡ false → eq_bytes l $description ≡ false → eq_bytes l $alert ≡ false → eq_bytes l $log ≡ false → one_of reserved l ≡ false
+pub unreserved : (l : List ℕ) → eq_bytes l state_word ≡ false → eq_bytes l description_word ≡ false → eq_bytes l alert_word ≡ false → eq_bytes l log_word ≡ false → one_of reserved l ≡ false
 unfolding one_of
 unreserved l a b c d = rw (a, b, c, d)
 
@@ -289,14 +289,14 @@ module _ (t : List ℕ) (at : ℕ) where
   form-none q = refuse t 9 _ (rw (levels-none t at q) no-levels)
 
   module _ (s e n : ℕ) (q : Found s e n ≡ part_at slash t at) where
-    pub form_no : eq_bytes (slice t s e) $broadcast ≡ false → is_id (slice t s e) ≡ false → Shows t at (form_of (levels_from t at)) (Refused 9)
+    pub form_no : eq_bytes (slice t s e) broadcast_word ≡ false → is_id (slice t s e) ≡ false → Shows t at (form_of (levels_from t at)) (Refused 9)
     form_no f g = refuse t 9 _ (rw (levels-step t at s e n q) (no_device (slice t s e) (levels_from t n) f g))
 
     pub form-next : (r : Topic) → Shows t s (form_of (slice t s e ∷ levels_from t n)) r → Shows t at (form_of (levels_from t at)) r
     form-next r h = rw (levels-step t at s e n q) (subst (λ (b : ℕ). Shows t b (form_of (slice t s e ∷ levels_from t n)) r) (found t at s e n q).start h)
 
-    pub form-broadcast : eq_bytes (slice t s e) $broadcast ≡ true → (r : Topic) → Shows t at (form_of ($broadcast ∷ levels_from t n)) r → Shows t at (form_of (levels_from t at)) r
-    form-broadcast f r h = rw (levels-step t at s e n q, eq_bytes-true (slice t s e) $broadcast f) h
+    pub form-broadcast : eq_bytes (slice t s e) broadcast_word ≡ true → (r : Topic) → Shows t at (form_of (broadcast_word ∷ levels_from t n)) r → Shows t at (form_of (levels_from t at)) r
+    form-broadcast f r h = rw (levels-step t at s e n q, eq_bytes-true (slice t s e) broadcast_word f) h
 
 -- ---- the first two levels
 

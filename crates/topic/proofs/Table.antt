@@ -11,7 +11,7 @@ use Rattle.answer.specs.Answer.{Answer, gives}
 use Rattle.text.specs.Bytes.{eq_bytes}
 use Rattle.text.specs.Ids.{is_id}
 use Rattle.text.proofs.Bytes.{and_both, eq_bytes-true}
-use Rattle.topic.specs.Words.{dollar, $state, $description, set_word, $target, $alert, $log, $broadcast, log_levels, reserved}
+use Rattle.topic.specs.Words.{dollar, state_word, description_word, set_word, target_word, alert_word, log_word, broadcast_word, log_levels, reserved}
 use Rattle.topic.specs.Form.{Form, state, description, value, set, target, alert, log, broadcast, other}
 use Rattle.topic.specs.Topics.{is, one_of, dollar_id, other_word, filled, fits, end, each, when◌give◌else◌, level, form_of}
 use Rattle.topic.specs.Table.{HasForm, is_state, is_description, is_value, is_set, is_target, is_alert, is_log, is_broadcast, is_other}
@@ -24,7 +24,7 @@ complete (is_state {d} hd) = state-fits d hd []
 complete (is_description {d} hd) = description-fits d hd []
 complete (is_value {d} {n} {p} hd hn hp) = value_row d hd n hn p hp
 complete (is_set {d} {n} {p} hd hn hp) = set_row d hd n hn p hp set_word refl
-complete (is_target {d} {n} {p} hd hn hp) = target_row d hd n hn p hp $target refl refl
+complete (is_target {d} {n} {p} hd hn hp) = target_row d hd n hn p hp target_word refl refl
 complete (is_alert {d} {a} hd ha) = alert-fits d hd (a ∷ []) ∙ rw ha
 complete (is_log {d} {l} hd hl) = log-fits d hd (l ∷ []) ∙ rw hl
 complete (is_broadcast {i} {ids} h) = broadcast_row (i ∷ ids) refl h
@@ -53,11 +53,11 @@ word : (w l : List ℕ) → is w l ≡ true → l ≡ w
 unfolding is
 word w l h = eq_bytes-true l w h
 
-state_in : {ls : List (List ℕ)} → Fits (is_id ∷ is $state ∷ []) end ls → HasForm ls (state (level ls 0))
-state_in (next {l = d} hd (next {l = w} hw (done {ls} he))) = rw (word $state w hw, ended ls he) (is_state hd)
+state_in : {ls : List (List ℕ)} → Fits (is_id ∷ is state_word ∷ []) end ls → HasForm ls (state (level ls 0))
+state_in (next {l = d} hd (next {l = w} hw (done {ls} he))) = rw (word state_word w hw, ended ls he) (is_state hd)
 
-description_in_lem : {ls : List (List ℕ)} → Fits (is_id ∷ is $description ∷ []) end ls → HasForm ls (description (level ls 0))
-description_in_lem (next {l = d} hd (next {l = w} hw (done {ls} he))) = rw (word $description w hw, ended ls he) (is_description hd)
+description_in_lem : {ls : List (List ℕ)} → Fits (is_id ∷ is description_word ∷ []) end ls → HasForm ls (description (level ls 0))
+description_in_lem (next {l = d} hd (next {l = w} hw (done {ls} he))) = rw (word description_word w hw, ended ls he) (is_description hd)
 
 value_in : {ls : List (List ℕ)} → Fits (is_id ∷ is_id ∷ is_id ∷ []) end ls → HasForm ls (value (level ls 0) (level ls 1) (level ls 2))
 value_in (next hd (next hn (next hp (done {ls} he)))) = rw (ended ls he) (is_value hd hn hp)
@@ -65,20 +65,20 @@ value_in (next hd (next hn (next hp (done {ls} he)))) = rw (ended ls he) (is_val
 set_in : {ls : List (List ℕ)} → Fits (is_id ∷ is_id ∷ is_id ∷ is set_word ∷ []) end ls → HasForm ls (set (level ls 0) (level ls 1) (level ls 2))
 set_in (next hd (next hn (next hp (next {l = w} hw (done {ls} he))))) = rw (word set_word w hw, ended ls he) (is_set hd hn hp)
 
-target_in : {ls : List (List ℕ)} → Fits (is_id ∷ is_id ∷ is_id ∷ is $target ∷ []) end ls → HasForm ls (target (level ls 0) (level ls 1) (level ls 2))
-target_in (next hd (next hn (next hp (next {l = w} hw (done {ls} he))))) = rw (word $target w hw, ended ls he) (is_target hd hn hp)
+target_in : {ls : List (List ℕ)} → Fits (is_id ∷ is_id ∷ is_id ∷ is target_word ∷ []) end ls → HasForm ls (target (level ls 0) (level ls 1) (level ls 2))
+target_in (next hd (next hn (next hp (next {l = w} hw (done {ls} he))))) = rw (word target_word w hw, ended ls he) (is_target hd hn hp)
 
-alert_in : {ls : List (List ℕ)} → Fits (is_id ∷ is $alert ∷ is_id ∷ []) end ls → HasForm ls (alert (level ls 0) (level ls 2))
-alert_in (next hd (next {l = w} hw (next ha (done {ls} he)))) = rw (word $alert w hw, ended ls he) (is_alert hd ha)
+alert_in : {ls : List (List ℕ)} → Fits (is_id ∷ is alert_word ∷ is_id ∷ []) end ls → HasForm ls (alert (level ls 0) (level ls 2))
+alert_in (next hd (next {l = w} hw (next ha (done {ls} he)))) = rw (word alert_word w hw, ended ls he) (is_alert hd ha)
 
-log_in : {ls : List (List ℕ)} → Fits (is_id ∷ is $log ∷ one_of log_levels ∷ []) end ls → HasForm ls (log (level ls 0) (level ls 2))
-log_in (next hd (next {l = w} hw (next hl (done {ls} he)))) = rw (word $log w hw, ended ls he) (is_log hd hl)
+log_in : {ls : List (List ℕ)} → Fits (is_id ∷ is log_word ∷ one_of log_levels ∷ []) end ls → HasForm ls (log (level ls 0) (level ls 2))
+log_in (next hd (next {l = w} hw (next hl (done {ls} he)))) = rw (word log_word w hw, ended ls he) (is_log hd hl)
 
-broadcast_in : {ls : List (List ℕ)} → Fits (is $broadcast ∷ is_id ∷ []) (each is_id) ls → HasForm ls (broadcast (drop 1 ls))
+broadcast_in : {ls : List (List ℕ)} → Fits (is broadcast_word ∷ is_id ∷ []) (each is_id) ls → HasForm ls (broadcast (drop 1 ls))
 unfolding each
 broadcast_in (next {l = w} hw (next {l = i} hi (done {ls} he))) =
     let h : each is_id (i ∷ ls) ≡ true = rw (hi, he) in
-    rw (word $broadcast w hw) (is_broadcast h)
+    rw (word broadcast_word w hw) (is_broadcast h)
 
 other_in : {ls : List (List ℕ)} → Fits (is_id ∷ other_word ∷ []) (each filled) ls → HasForm ls (other (level ls 0) (drop 1 (level ls 1)) (drop 2 ls))
 unfolding other_word dollar_id

@@ -4,7 +4,7 @@ use Rattle.answer.specs.Answer.{Answer, refused, gives, require, only}
 use Rattle.text.specs.Bytes.{eq_bytes}
 use Rattle.text.specs.Split.{split}
 use Rattle.text.specs.Ids.{is_id}
-use Rattle.topic.specs.Words.{slash, dollar, five, $state, $description, set_word, $target, $alert, $log, $broadcast, log_levels, reserved}
+use Rattle.topic.specs.Words.{slash, dollar, five, state_word, description_word, set_word, target_word, alert_word, log_word, broadcast_word, log_levels, reserved}
 use Rattle.topic.specs.Form.{Form, state, description, value, set, target, alert, log, broadcast, other}
 
 -- ---- what a level may be: an ID (crate text, specs/Ids.antt), a word, ..
@@ -60,14 +60,14 @@ level ls i = get_or ls i []
 -- The table, row by row. 9: "no such form".
 unfoldable pub form_of : List (List ℕ) → Answer Form
 form_of ls =
-    when fits (is_id ∷ is $state ∷ []) end ls give state (level ls 0) else
-    when fits (is_id ∷ is $description ∷ []) end ls give description (level ls 0) else
+    when fits (is_id ∷ is state_word ∷ []) end ls give state (level ls 0) else
+    when fits (is_id ∷ is description_word ∷ []) end ls give description (level ls 0) else
     when fits (is_id ∷ is_id ∷ is_id ∷ []) end ls give value (level ls 0) (level ls 1) (level ls 2) else
     when fits (is_id ∷ is_id ∷ is_id ∷ is set_word ∷ []) end ls give set (level ls 0) (level ls 1) (level ls 2) else
-    when fits (is_id ∷ is_id ∷ is_id ∷ is $target ∷ []) end ls give target (level ls 0) (level ls 1) (level ls 2) else
-    when fits (is_id ∷ is $alert ∷ is_id ∷ []) end ls give alert (level ls 0) (level ls 2) else
-    when fits (is_id ∷ is $log ∷ one_of log_levels ∷ []) end ls give log (level ls 0) (level ls 2) else
-    when fits (is $broadcast ∷ is_id ∷ []) (each is_id) ls give broadcast (drop 1 ls) else
+    when fits (is_id ∷ is_id ∷ is_id ∷ is target_word ∷ []) end ls give target (level ls 0) (level ls 1) (level ls 2) else
+    when fits (is_id ∷ is alert_word ∷ is_id ∷ []) end ls give alert (level ls 0) (level ls 2) else
+    when fits (is_id ∷ is log_word ∷ one_of log_levels ∷ []) end ls give log (level ls 0) (level ls 2) else
+    when fits (is broadcast_word ∷ is_id ∷ []) (each is_id) ls give broadcast (drop 1 ls) else
     when fits (is_id ∷ other_word ∷ []) (each filled) ls give other (level ls 0) (drop 1 (level ls 1)) (drop 2 ls) else
     refused (only 9)
 

@@ -11,26 +11,26 @@ dollar = 36
 abbrev pub five : List ℕ
 five = ascii "5"
 
-abbrev pub $state : List ℕ
-$state = ascii "$state"
+abbrev pub state_word : List ℕ
+state_word = ascii "$state"
 
-abbrev pub $description : List ℕ
-$description = ascii "$description"
+abbrev pub description_word : List ℕ
+description_word = ascii "$description"
 
 abbrev pub set_word : List ℕ
 set_word = ascii "set"
 
-abbrev pub $target : List ℕ
-$target = ascii "$target"
+abbrev pub target_word : List ℕ
+target_word = ascii "$target"
 
-abbrev pub $alert : List ℕ
-$alert = ascii "$alert"
+abbrev pub alert_word : List ℕ
+alert_word = ascii "$alert"
 
-abbrev pub $log : List ℕ
-$log = ascii "$log"
+abbrev pub log_word : List ℕ
+log_word = ascii "$log"
 
-abbrev pub $broadcast : List ℕ
-$broadcast = ascii "$broadcast"
+abbrev pub broadcast_word : List ℕ
+broadcast_word = ascii "$broadcast"
 
 -- Paper 01, "Topics", row log: "debug, info, warn, error, fatal"
 abbrev pub log_levels : List (List ℕ)
@@ -38,4 +38,4 @@ log_levels = ascii "debug" ∷ ascii "info" ∷ ascii "warn" ∷ ascii "error" �
 
 -- Paper 01, "Topics": "`other` excludes first words `$state`, `$description`, `$alert`, `$log`"
 abbrev pub reserved : List (List ℕ)
-reserved = $state ∷ $description ∷ $alert ∷ $log ∷ []
+reserved = state_word ∷ description_word ∷ alert_word ∷ log_word ∷ []

@@ -2,20 +2,20 @@
 use Rattle.std.specs.Prelude.{ℕ, Bool, not, ◌&&◌, List, [], ◌∷◌}
 use Rattle.text.specs.Split.{join_by, free}
 use Rattle.text.specs.Ids.{is_id}
-use Rattle.topic.specs.Words.{slash, dollar, five, $state, $description, set_word, $target, $alert, $log, $broadcast, log_levels, reserved}
+use Rattle.topic.specs.Words.{slash, dollar, five, state_word, description_word, set_word, target_word, alert_word, log_word, broadcast_word, log_levels, reserved}
 use Rattle.topic.specs.Form.{Form, state, description, value, set, target, alert, log, broadcast, other}
 use Rattle.topic.specs.Topics.{one_of, filled, end, each}
 
 -- a form's row of the table, with its byte strings
 unfoldable pub levels_of : Form → List (List ℕ)
-levels_of (state d) = d ∷ $state ∷ []
-levels_of (description d) = d ∷ $description ∷ []
+levels_of (state d) = d ∷ state_word ∷ []
+levels_of (description d) = d ∷ description_word ∷ []
 levels_of (value d n p) = d ∷ n ∷ p ∷ []
 levels_of (set d n p) = d ∷ n ∷ p ∷ set_word ∷ []
-levels_of (target d n p) = d ∷ n ∷ p ∷ $target ∷ []
-levels_of (alert d a) = d ∷ $alert ∷ a ∷ []
-levels_of (log d l) = d ∷ $log ∷ l ∷ []
-levels_of (broadcast ids) = $broadcast ∷ ids
+levels_of (target d n p) = d ∷ n ∷ p ∷ target_word ∷ []
+levels_of (alert d a) = d ∷ alert_word ∷ a ∷ []
+levels_of (log d l) = d ∷ log_word ∷ l ∷ []
+levels_of (broadcast ids) = broadcast_word ∷ ids
 levels_of (other d w ls) = d ∷ (dollar ∷ w) ∷ ls
 
 -- the domain, `5` and the form's levels, with `/` between them

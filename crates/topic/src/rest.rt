@@ -1,6 +1,6 @@
 // The form of a topic's levels after the first two.
 ghost use Rattle.std.specs.Prelude.{ℕ, ◌≡◌, false, ◌∷◌};
-ghost use Rattle.topic.specs.Words.{reserved, $state, $description, $alert, $log, $broadcast};
+ghost use Rattle.topic.specs.Words.{reserved, state_word, description_word, alert_word, log_word, broadcast_word};
 ghost use Rattle.topic.specs.Topics.{one_of, form_of};
 ghost use Rattle.text.specs.Places.{bytes_at};
 ghost use Rattle.topic.specs.Meaning.{Shows};
@@ -34,7 +34,7 @@ pub fn form(topic: &[u8], at: usize) -> Topic
 
 // `$broadcast`, then the levels from `at` on; where `$broadcast` itself begins does not matter.
 fn broadcast(topic: &[u8], at: usize) -> Topic
-    ensures { (begin : ℕ) → Shows topic.now begin (form_of ($broadcast ∷ levels_from topic.now at)) result }
+    ensures { (begin : ℕ) → Shows topic.now begin (form_of (broadcast_word ∷ levels_from topic.now at)) result }
 {
     if at > topic.len() {
         return Topic::Refused(9);
@@ -143,7 +143,7 @@ fn of_word(topic: &[u8], device: Place, word: Place, at: usize) -> Topic
 // A device and `$state`, then the levels from `at` on.
 fn state(topic: &[u8], device: Place, at: usize) -> Topic
     requires { IdAt topic.now device }
-    ensures { Shows topic.now device.start (form_of (bytes_at topic.now device ∷ $state ∷ levels_from topic.now at)) result }
+    ensures { Shows topic.now device.start (form_of (bytes_at topic.now device ∷ state_word ∷ levels_from topic.now at)) result }
 {
     if at <= topic.len() {
         return Topic::Refused(9);
@@ -154,7 +154,7 @@ fn state(topic: &[u8], device: Place, at: usize) -> Topic
 // A device and `$description`, then the levels from `at` on.
 fn description(topic: &[u8], device: Place, at: usize) -> Topic
     requires { IdAt topic.now device }
-    ensures { Shows topic.now device.start (form_of (bytes_at topic.now device ∷ $description ∷ levels_from topic.now at)) result }
+    ensures { Shows topic.now device.start (form_of (bytes_at topic.now device ∷ description_word ∷ levels_from topic.now at)) result }
 {
     if at <= topic.len() {
         return Topic::Refused(9);
@@ -165,7 +165,7 @@ fn description(topic: &[u8], device: Place, at: usize) -> Topic
 // A device and `$alert`, then the levels from `at` on.
 fn alert(topic: &[u8], device: Place, at: usize) -> Topic
     requires { IdAt topic.now device }
-    ensures { Shows topic.now device.start (form_of (bytes_at topic.now device ∷ $alert ∷ levels_from topic.now at)) result }
+    ensures { Shows topic.now device.start (form_of (bytes_at topic.now device ∷ alert_word ∷ levels_from topic.now at)) result }
 {
     let Part::Found { start, end, next } = text::next_part(topic, at, b'/') else {
         return Topic::Refused(9);
@@ -188,7 +188,7 @@ fn alert(topic: &[u8], device: Place, at: usize) -> Topic
 // A device and `$log`, then the levels from `at` on.
 fn log(topic: &[u8], device: Place, at: usize) -> Topic
     requires { IdAt topic.now device }
-    ensures { Shows topic.now device.start (form_of (bytes_at topic.now device ∷ $log ∷ levels_from topic.now at)) result }
+    ensures { Shows topic.now device.start (form_of (bytes_at topic.now device ∷ log_word ∷ levels_from topic.now at)) result }
 {
     let Part::Found { start, end, next } = text::next_part(topic, at, b'/') else {
         return Topic::Refused(9);
