@@ -1,11 +1,9 @@
 -- The tests of every message, 7 to 11, and the forms.
 use Prim.Native.Nat.{ℕ, zero, suc, ◌≤◌}
 use mathlib.Core.Path.{◌≡◌, refl, sym, ap, ◌∙◌}
-use mathlib.Core.List.{List, [], ◌∷◌}
+use mathlib.Core.List.{List}
 use mathlib.Core.Bool.{Bool, true, false}
 use lib.ListN.{length}
-use types.Run.{OneOf, miss}
-use denote.Enum.Declared.{tag_of}
 use Rattle.answer.specs.Answer.{Answer, refused, gives, and_then, only}
 use Rattle.answer.proofs.Theorems.{require-holds, require-fails}
 use Rattle.text.specs.Ids.{is_id, id_most}
@@ -19,7 +17,6 @@ use Rattle.text.specs.Places.{bytes_at}
 use Rattle.topic.specs.Meaning.{levels_in, meaning}
 use Rattle.topic.specs.Writing.{valid}
 use Rattle.topic.specs.declared.Topic.{Topic}
-use Rattle.topic.specs.contracts.Topic.{the_type}
 use Rattle.topic.specs.declared.Topic.TheVariants as shown
 use Rattle.text.specs.declared.Place.{Place}
 use Rattle.topic.specs.declared.Flag.{Flag}
@@ -62,9 +59,9 @@ pub record HasForm (t : Topic) (s : List ℕ) : Type 0 where
   pub form : Form
   pub has : meaning s t ≡ gives form
 
-pub not-refused : (t : Topic) → OneOf (1 ∷ 2 ∷ 3 ∷ 4 ∷ 5 ∷ 6 ∷ 7 ∷ 8 ∷ 9 ∷ []) (tag_of the_type t) → (s : List ℕ) → HasForm t s
+pub not-refused : (t : Topic) → ((n : ℕ) → t ≡ shown.Refused n → ⊥) → (s : List ℕ) → HasForm t s
 unfolding meaning
-not-refused (shown.Refused n) k s = absurd (miss (1 ∷ 2 ∷ 3 ∷ 4 ∷ 5 ∷ 6 ∷ 7 ∷ 8 ∷ 9 ∷ []) 0 tt k)
+not-refused (shown.Refused n) k s = absurd (k n refl)
 not-refused (shown.State d) k s = record { form = form.state (bytes_at s d); has = refl }
 not-refused (shown.Description d) k s = record { form = form.description (bytes_at s d); has = refl }
 not-refused (shown.Value d n p) k s = record { form = form.value (bytes_at s d) (bytes_at s n) (bytes_at s p); has = refl }

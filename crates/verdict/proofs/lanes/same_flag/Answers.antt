@@ -1,0 +1,10 @@
+use Rattle.rules.specs.Messages.{same_flag}
+use Rattle.verdict.proofs.lanes.same_flag.Goals as goal
+
+pub returns-then-a : goal.returns-then-a
+unfolding same_flag
+returns-then-a c = rw c.if-a.true
+
+pub returns : goal.returns
+unfolding same_flag
+returns c = rw c.if-a.false
