@@ -4,8 +4,6 @@ use mathlib.Core.Path.{◌≡◌, refl, sym, ap, ap₂, ◌∙◌, subst}
 use mathlib.Core.List.{List, [], ◌∷◌}
 use mathlib.Core.Bool.{Bool, true, false, false≢true}
 use lib.ListN.{length, get_or, drop}
-use types.Run.{OneOf, miss}
-use denote.Enum.Declared.{tag_of}
 use Rattle.answer.specs.Answer.{Answer, refused, gives, only}
 use Rattle.book.specs.Book as book
 use Rattle.book.specs.Book.{Call, State, fresh, moved, become, refuses, takes, Rules, message, step_back, question, next, from, table_after, blank, told, noted, without_last, after, answers, done, call}
@@ -20,7 +18,6 @@ use Rattle.lookup.specs.Contract.{Did, Opened, says_taken, is_taken, is_openable
 use Rattle.lookup.proofs.Demand.{reversible}
 use Rattle.table.specs.declared.Outcome.{Outcome}
 use Rattle.table.specs.declared.Outcome.TheVariants.{Taken, Refused, Faulty}
-use Rattle.table.specs.contracts.Outcome.{the_type}
 use Rattle.table.specs.Outcome.{said}
 use Rattle.questions.specs.Meaning.{says_number}
 use Rattle.questions.specs.declared.Number.TheVariants as number
@@ -122,13 +119,13 @@ taken_open : {m₀ m₁ domain : List ℕ} {a : Answer Value} → Opened m₀ do
 taken_open {m₀} {m₁} {domain} o = ap is_taken o.answered ∙ opened (is_openable domain 4 3 (length m₀))
 
 -- an outcome that is not the first of the three
-not_taken : (r : Outcome) → OneOf (1 ∷ 2 ∷ []) (tag_of the_type r) → is_taken (said r) ≡ false
+not_taken : (r : Outcome) → (r ≡ Taken → ⊥) → is_taken (said r) ≡ false
 unfolding is_taken
-not_taken Taken k = absurd (miss (1 ∷ 2 ∷ []) 0 tt k)
+not_taken Taken k = absurd (k refl)
 not_taken (Refused n) k = refl
 not_taken (Faulty n p) k = refl
 
-pub refused-right : (m₀ m₁ domain : List ℕ) (x : messages.Message) (r : Outcome) → Opened m₀ domain 4 3 m₁ (said r) → OneOf (1 ∷ 2 ∷ []) (tag_of the_type r) → SentTwice m₀ domain x m₁ (said r) (said r) (says_number (number.Refused 5))
+pub refused-right : (m₀ m₁ domain : List ℕ) (x : messages.Message) (r : Outcome) → Opened m₀ domain 4 3 m₁ (said r) → (r ≡ Taken → ⊥) → SentTwice m₀ domain x m₁ (said r) (said r) (says_number (number.Refused 5))
 unfolding is_taken open_answer says_number
 refused-right m₀ m₁ domain x r o k =
     let t = not_taken r k in
