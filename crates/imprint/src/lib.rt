@@ -168,6 +168,7 @@ fn put_head(room: &mut [u8], s: &[u8], root: Field, parent: Field, version: u64,
 }
 
 // The image of a room with the description d, which was read from s: its bytes from the description on are what a device's room gets.
+#[inline(never)]
 pub fn description(s: &[u8], d: description::Description) -> [u8; ROOM]
     ensures { Imprinted s.now d result }
 {
