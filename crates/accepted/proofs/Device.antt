@@ -1,10 +1,10 @@
 -- A device: its faults against its tests.
+use Rattle.std.specs.Prelude.{None, Some, Err, Ok, Result, Option}
 use Prim.Native.Nat.{ℕ, zero, suc, ◌-◌, ◌≤◌, ◌<◌}
 use native.Mathlib.Omega.{arith}
 use mathlib.Core.Path.{◌≡◌, refl, ◌∙◌}
 use mathlib.Core.List.{List, [], ◌∷◌, ◌++◌, map}
 use mathlib.Core.Bool.{Bool, true, false, cond, not, ◌&&◌, ◌||◌, false≢true}
-use mathlib.Core.Option.{none, some}
 use lib.ListN.{length, take, drop, get_or}
 use lib.Seq.{drop-cons}
 use lib.Dec.{eqb, leb}
@@ -21,17 +21,15 @@ use Rattle.numbers.specs.Integer.{value, is_64_bit, integer}
 use Rattle.json_text.specs.Bytes.{byte, ws}
 use Rattle.json_text.specs.Number.{is_digit}
 use Rattle.json_text.specs.Value.{value_at, document_of}
-use Rattle.json_text.specs.declared.Scan.{Scan}
-use Rattle.json_text.specs.declared.Scan.TheVariants.{End, Bad}
 use Rattle.json_grammar.specs.Place.{bad_place, place_unless, bad_places}
 use Rattle.json_grammar.proofs.Ends.{Past, value-past}
-use Rattle.faults.specs.Faults.{Fault, not_json, missing, other_rule}
+use Rattle.faults.specs.declared.Fault.{Fault}
+use Rattle.faults.specs.Faults.{not_json, missing, other_rule}
 use Rattle.faults.proofs.Laws.{both-none}
 use Rattle.fields.specs.Values.{value_bytes, is_string_at, is_number_at, is_object}
 use Rattle.fields.specs.Fields as first
 use Rattle.fields.specs.Fields.{close_at}
 use Rattle.fields.specs.Names.{known_names}
-use Rattle.fields.specs.declared.Field.{Field}
 use Rattle.fields.specs.declared.Kind.TheVariants.{Text, Object, Ids, Texts}
 use Rattle.fields.specs.declared.Owner.TheVariants as owner
 use Rattle.description.specs.Names.{homie, version, nodes, name, type, children, root, parent, extensions}
@@ -61,7 +59,7 @@ first_byte (b ∷ t) h = both (eqb b 45)
     (λ q. absurd (eqb-false b 45 e (let p = in_range_lem 45 45 b q in omega arith)))
     (λ q. q)))
 
-is_read : (b : Bool) (z : ℤ) → is_number (cond b (some z) none) ≡ true → b ≡ true
+is_read : (b : Bool) (z : ℤ) → is_number (cond b (Some z) None) ≡ true → b ≡ true
 unfolding is_number
 is_read true z e = refl
 is_read false z e = e
@@ -83,19 +81,19 @@ module _ (s : List ℕ) (k : ℕ) where
       minus_or-digit : (t : List ℕ) → is_number (integer t) ≡ true → (eqb (get_or t 0 256) 45 || is_digit (get_or t 0 256)) ≡ true
       minus_or-digit t q = first_byte t (and_both (accepts integer-text t) (is_64_bit (value t)) (is_read (accepts integer-text t && is_64_bit (value t)) (value t) q)).0
 
-      go : (r : Scan) → value_at 16 s k ≡ r → Past s k r → is_number_at s k ≡ true
-      go (End e) q p = rw (value-first e p.0 p.1) at (minus_or-digit (slice s k e) (rw (q, value_bytes) at h))
-      go (Bad e) q p = absurd (false≢true (minus_or-digit [] (rw (q, value_bytes) at h)))
+      go : (r : Result ℕ ℕ) → value_at 16 s k ≡ r → Past s k r → is_number_at s k ≡ true
+      go (Ok e) q p = rw (value-first e p.0 p.1) at (minus_or-digit (slice s k e) (rw (q, value_bytes) at h))
+      go (Err e) q p = absurd (false≢true (minus_or-digit [] (rw (q, value_bytes) at h)))
 
 -- ---- the fields
 
 module _ (s : List ℕ) (at : ℕ) where
-  of-homie : {f : Once} {g : Field} → Alike f g → Same (homie_faults s at g) (required (is_text is_homie decoded s) f)
+  of-homie : {f : Once} {g : Option ℕ} → Alike f g → Same (homie_faults s at g) (required (is_text is_homie decoded s) f)
   unfolding homie_faults homie_rule required is_text
   of-homie absent = same_some (missing (close_at s at)) []
   of-homie (one k) = kind k (is_string_at s k) (of-string s k (λ t. rule (is_homie t) (other_rule k)))
 
-  of-version : {f : Once} {g : Field} → Alike f g → Same (version_faults s at g) (required (λ k. is_number (integer (value_bytes s k))) f)
+  of-version : {f : Once} {g : Option ℕ} → Alike f g → Same (version_faults s at g) (required (λ k. is_number (integer (value_bytes s k))) f)
   unfolding version_faults required
   of-version absent = same_some (missing (close_at s at)) []
   of-version (one k) =
@@ -114,12 +112,12 @@ module _ (own s : List ℕ) where
   unfolding relative_faults is_relative
   of_relative k t = both_hold (rule (is_id t) (other_rule k)) (rule (not (eq_bytes t own)) (other_rule k))
 
-  of-root : {f : Once} {g : Field} → Alike f g → Same (root_faults own s g) (optional (is_text (is_relative own) decoded s) f)
+  of-root : {f : Once} {g : Option ℕ} → Alike f g → Same (root_faults own s g) (optional (is_text (is_relative own) decoded s) f)
   unfolding root_faults optional is_text
   of-root absent = same_none
   of-root (one k) = kind k (is_string_at s k) (of-string s k (of_relative k))
 
-  of-parent : {d : Once} {e : Field} → Alike d e → {f : Once} {g : Field} → Alike f g → Agree (parent_faults own s e g) (parent_rules own decoded s d f)
+  of-parent : {d : Once} {e : Option ℕ} → Alike d e → {f : Once} {g : Option ℕ} → Alike f g → Agree (parent_faults own s e g) (parent_rules own decoded s d f)
   unfolding parent_faults parent_rule parent_rules optional is_text is_present holds
   of-parent a absent = alone same_none (true ∷ []) refl
   of-parent {d} {e} a (one k) = rw (present a) (kind_with k (is_string_at s k) (of-string_and s k (first.is_present e) (other_rule k) (of_relative k)))
@@ -151,13 +149,13 @@ module _ (own s : List ℕ) where
 
 -- ---- the whole text
 
-of_json : (q : Scan) (u n : Bool) (p : ℕ) → Agree (map not_json (bad_place q ++ (place_unless u p ++ place_unless n 8192))) (n ∷ u ∷ is_end q ∷ [])
+of_json : (q : Result ℕ ℕ) (u n : Bool) (p : ℕ) → Agree (map not_json (bad_place q ++ (place_unless u p ++ place_unless n 8192))) (n ∷ u ∷ is_end q ∷ [])
 unfolding bad_place place_unless is_end holds
-of_json (End e) true true p = alone same_none (true ∷ true ∷ []) refl
-of_json (End e) true false p = never (not_json 8192) [] refl
-of_json (End e) false true p = never (not_json p) [] refl
-of_json (End e) false false p = never (not_json p) (not_json 8192 ∷ []) refl
-of_json (Bad e) u n p = never (not_json e) _ (third-fails n u)
+of_json (Ok e) true true p = alone same_none (true ∷ true ∷ []) refl
+of_json (Ok e) true false p = never (not_json 8192) [] refl
+of_json (Ok e) false true p = never (not_json p) [] refl
+of_json (Ok e) false false p = never (not_json p) (not_json 8192 ∷ []) refl
+of_json (Err e) u n p = never (not_json e) _ (third-fails n u)
   where
     third-fails : (a b : Bool) → holds (a ∷ b ∷ false ∷ []) ≡ false
     third-fails false b = refl

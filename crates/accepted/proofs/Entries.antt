@@ -6,7 +6,8 @@ use mathlib.Core.Bool.{Bool, true, false, not}
 use Rattle.text.specs.Ids.{is_id}
 use Rattle.json_text.specs.Members.{Member}
 use Rattle.escapes.specs.Decode.{whole}
-use Rattle.faults.specs.Faults.{Fault, other_rule, repeated}
+use Rattle.faults.specs.declared.Fault.{Fault}
+use Rattle.faults.specs.Faults.{other_rule, repeated}
 use Rattle.fields.specs.Values.{decoded_at, string_bytes, members, name_of}
 use Rattle.fields.specs.Fields.{among, decoded_faults, id_rule, comes_first, entry_faults}
 use Rattle.fields.proofs.Decoded.{whole-faults}

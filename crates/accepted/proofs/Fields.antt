@@ -1,4 +1,5 @@
 -- The fields of an object: their faults against their tests.
+use Rattle.std.specs.Prelude.{Option}
 use Prim.Native.Nat.{ℕ}
 use mathlib.Core.Path.{◌≡◌, refl, sym, ap, ◌∙◌}
 use mathlib.Core.List.{List, [], ◌∷◌, ◌++◌}
@@ -8,7 +9,8 @@ use Rattle.text.specs.Ids.{is_id}
 use Rattle.text.proofs.Bytes.{both, eq_bytes-true, eq_bytes-refl}
 use Rattle.json_text.specs.Members.{Member}
 use Rattle.escapes.specs.Decode.{whole, bytes_of}
-use Rattle.faults.specs.Faults.{Fault, wrong_kind, repeated, other_rule}
+use Rattle.faults.specs.declared.Fault.{Fault}
+use Rattle.faults.specs.Faults.{wrong_kind, repeated, other_rule}
 use Rattle.faults.proofs.Laws.{both-none, rule-kept}
 use Rattle.fields.specs.Values.{decoded_at, is_string_at, is_object, is_array, is_flag, members, elements, name_of}
 use Rattle.fields.specs.Fields as first
@@ -19,7 +21,6 @@ use Rattle.fields.specs.declared.Kind.{Kind}
 use Rattle.fields.specs.declared.Kind.TheVariants.{Text, Flag, Object, Ids, Texts}
 use Rattle.fields.specs.declared.Owner.{Owner}
 use Rattle.fields.proofs.Names.{among_first, among-rest, first-named}
-use Rattle.fields.specs.declared.Field.{Field}
 use Rattle.accepted.specs.Once.{decoded, read_at, passes, is_read, Once, Absent, One, Twice, holds, all, field, is_twice, is_present, optional, required, members_in, names_read}
 use Rattle.accepted.specs.Rules.{is_text, array_of}
 use Rattle.accepted.proofs.Same.{Same, same_none, rule, none_both, first_holds, holds-both, Agree, kind, kind_then, In, here, later, in-none, first-all, all_both, each_same}
@@ -60,17 +61,17 @@ module _ (s : List ℕ) (k : ℕ) where
 
 -- ---- a field
 
-pub held : (kind : Kind) (s : List ℕ) (test : ℕ → Bool) → ((k : ℕ) → Same (kind_faults kind s k) (test k)) → {f : Once} {g : Field} → Alike f g → Same (field_faults kind s g) (optional test f)
+pub held : (kind : Kind) (s : List ℕ) (test : ℕ → Bool) → ((k : ℕ) → Same (kind_faults kind s k) (test k)) → {f : Once} {g : Option ℕ} → Alike f g → Same (field_faults kind s g) (optional test f)
 unfolding field_faults optional
 held kind s test a absent = same_none
 held kind s test a (one k) = a k
 
-pub present : {f : Once} {g : Field} → Alike f g → is_present f ≡ first.is_present g
+pub present : {f : Once} {g : Option ℕ} → Alike f g → is_present f ≡ first.is_present g
 unfolding is_present first.is_present
 present absent = refl
 present (one k) = refl
 
-pub members_of : (s : List ℕ) {f : Once} {g : Field} → Alike f g → members_in s f ≡ first.members_in s g
+pub members_of : (s : List ℕ) {f : Once} {g : Option ℕ} → Alike f g → members_in s f ≡ first.members_in s g
 unfolding members_in first.members_in
 members_of s absent = refl
 members_of s (one k) = refl

@@ -1,9 +1,9 @@
 -- Properties, nodes and the device: their tests with strings as they are sent, against those with decoded ones.
+use Rattle.std.specs.Prelude.{Option, None, Some}
 use Prim.Native.Nat.{ℕ}
 use mathlib.Core.Path.{◌≡◌, refl, ap}
 use mathlib.Core.List.{List, [], ◌∷◌, ◌++◌}
 use mathlib.Core.Bool.{Bool, true, false, not, ◌||◌}
-use mathlib.Core.Option.{Option, none, some}
 use lib.ListN.{length}
 use lib.Dec.{leb}
 use Rattle.text.specs.Ids.{is_id}
@@ -57,10 +57,10 @@ module _ (s : List ℕ) where
 
   format_grows : (d : Option Datatype) (f : Once) → Grows s (format_fits as_sent s d f) (format_fits decoded s d f) (kept_in d f)
   unfolding format_fits fits_at kept_in in_field
-  format_grows none f = alike true
-  format_grows (some d) Absent = no-format (is_kept d) (is_some (when_missing d))
-  format_grows (some d) (One k) = given_grows (is_kept d) (is_format d) k
-  format_grows (some d) Twice = no-format (is_kept d) true
+  format_grows None f = alike true
+  format_grows (Some d) Absent = no-format (is_kept d) (is_some (when_missing d))
+  format_grows (Some d) (One k) = given_grows (is_kept d) (is_format d) k
+  format_grows (Some d) Twice = no-format (is_kept d) true
 
   property_grows : (k : ℕ) → GrowAll s (property_rules as_sent s k) (property_rules decoded s k) (property_strings s k)
   unfolding property_rules property_field_rules property_strings
@@ -81,8 +81,8 @@ module _ (s : List ℕ) where
 module _ (s : List ℕ) (at : ℕ) where
   once-alike : Plain s (names_of s at) → (o : Option (List ℕ)) → passes (is_once as_sent s at) o ≡ passes (is_once decoded s at) o
   unfolding passes is_once
-  once-alike p none = refl
-  once-alike p (some t) = ap (λ (f : Once). not (is_twice f)) (field_alike s at p t)
+  once-alike p None = refl
+  once-alike p (Some t) = ap (λ (f : Once). not (is_twice f)) (field_alike s at p t)
 
   module _ (sent new : Member → List Bool) (strings : ℕ → List ℕ) (a : (m : Member) → GrowAll s (sent m) (new m) (strings m.value)) where
     abbrev test_sent : Member → Bool

@@ -1,17 +1,15 @@
 -- Tests of strings as they are sent, against tests of decoded ones: the first hold exactly where the others do and none of these strings has a backslash.
+use Rattle.std.specs.Prelude.{None, Some, Err, Ok, Result}
 use Prim.Native.Nat.{ℕ, zero, suc, ◌+◌, ◌-◌}
 use mathlib.Core.Path.{◌≡◌, refl, sym, ap, ◌∙◌}
 use mathlib.Core.List.{List, [], ◌∷◌, ◌++◌}
 use mathlib.Core.Bool.{Bool, true, false, ◌&&◌, false≢true}
-use mathlib.Core.Option.{none, some}
 use lib.ListN.{take, drop}
 use lib.Dec.{eqb}
 use Rattle.text.specs.Bytes.{eq_bytes}
 use Rattle.text.proofs.Bytes.{both}
 use Rattle.json_text.specs.Strings as json
 use Rattle.json_text.specs.Strings.{raw_bytes, is_plain}
-use Rattle.json_text.specs.declared.Scan.{Scan}
-use Rattle.json_text.specs.declared.Scan.TheVariants.{End, Bad}
 use Rattle.json_text.specs.Members.{Member}
 use Rattle.escapes.proofs.Theorems as escapes
 use Rattle.fields.specs.Values.{is_string_at, is_array, members, elements}
@@ -70,9 +68,9 @@ module _ (s : List ℕ) (h : is_plain s ≡ true) where
   unfolding raw_bytes is_plain
   raw-plain k = go (json.string_at s k) refl
     where
-      go : (r : Scan) → json.string_at s k ≡ r → is_plain (raw_bytes s k) ≡ true
-      go (End e) q = rw (q, raw_bytes) (take-plain ((e - 1) - (k + 1)) (drop (k + 1) s) (drop-plain (k + 1) s h))
-      go (Bad e) q = rw (q, raw_bytes)
+      go : (r : Result ℕ ℕ) → json.string_at s k ≡ r → is_plain (raw_bytes s k) ≡ true
+      go (Ok e) q = rw (q, raw_bytes) (take-plain ((e - 1) - (k + 1)) (drop (k + 1) s) (drop-plain (k + 1) s h))
+      go (Err e) q = rw (q, raw_bytes)
 
   pub all_plain : (ks : List ℕ) → Plain s ks
   all_plain [] = plain-none s
@@ -136,15 +134,15 @@ module _ {s : List ℕ} where
 -- ---- a string
 
 module _ (s : List ℕ) (k : ℕ) where
-  plain-sent : is_plain (raw_bytes s k) ≡ true → read_at as_sent s k ≡ some (raw_bytes s k)
+  plain-sent : is_plain (raw_bytes s k) ≡ true → read_at as_sent s k ≡ Some (raw_bytes s k)
   unfolding read_at as_sent
   plain-sent e = rw (e, as_sent)
 
-  not-sent : is_plain (raw_bytes s k) ≡ false → read_at as_sent s k ≡ none
+  not-sent : is_plain (raw_bytes s k) ≡ false → read_at as_sent s k ≡ None
   unfolding read_at as_sent
   not-sent e = rw (e, as_sent)
 
-  plain-decoded : is_plain (raw_bytes s k) ≡ true → read_at decoded s k ≡ some (raw_bytes s k)
+  plain-decoded : is_plain (raw_bytes s k) ≡ true → read_at decoded s k ≡ Some (raw_bytes s k)
   unfolding read_at decoded if_whole
   plain-decoded e = ap if_whole (escapes.plain (raw_bytes s k) e)
 

@@ -1,9 +1,9 @@
 -- Properties and nodes: their faults against their tests.
+use Rattle.std.specs.Prelude.{Option, None, Some}
 use Prim.Native.Nat.{ℕ}
 use mathlib.Core.Path.{◌≡◌, refl, sym}
 use mathlib.Core.List.{List, [], ◌∷◌}
 use mathlib.Core.Bool.{Bool, true, false, not, ◌||◌, false≢true}
-use mathlib.Core.Option.{Option, none, some}
 use lib.ListN.{length, drop_of_length-le}
 use lib.Dec.{leb}
 use borrow.Author.Tests.{leb-true, le-leb}
@@ -20,7 +20,6 @@ use Rattle.fields.specs.Values.{decoded_at, string_bytes, is_string_at, is_objec
 use Rattle.fields.specs.Fields as first
 use Rattle.fields.specs.Fields.{of_kind, among, close_at}
 use Rattle.fields.specs.Names.{known_names}
-use Rattle.fields.specs.declared.Field.{Field}
 use Rattle.fields.specs.declared.Kind.TheVariants.{Text, Flag, Object}
 use Rattle.fields.specs.declared.Owner.TheVariants as owner
 use Rattle.fields.proofs.Names.{Firsts, firsts_more, firsts}
@@ -43,8 +42,8 @@ use Rattle.accepted.proofs.Entries.{entries}
 
 pub named-passes : (o : Option (List ℕ)) → is_some (type_named o) ≡ passes (λ t. is_some (datatype_named t)) o
 unfolding type_named passes
-named-passes none = refl
-named-passes (some t) = refl
+named-passes None = refl
+named-passes (Some t) = refl
 
 module _ (s : List ℕ) where
   named-bytes : (d : Decoded) → type_named (if_whole d) ≡ datatype_named (bytes_of d)
@@ -52,7 +51,7 @@ module _ (s : List ℕ) where
   named-bytes (whole t) = refl
   named-bytes (half p) = refl
 
-  same-datatype : {f : Once} {g : Field} → Alike f g → datatype_in decoded s f ≡ property.datatype_in s g
+  same-datatype : {f : Once} {g : Option ℕ} → Alike f g → datatype_in decoded s f ≡ property.datatype_in s g
   unfolding datatype_in property.datatype_in read_at decoded string_bytes decoded_at
   same-datatype absent = refl
   same-datatype (one k) = both (is_string_at s k)
@@ -66,7 +65,7 @@ module _ (s : List ℕ) where
   datatype-once Twice e = absurd (false≢true e)
 
   module _ (at : ℕ) where
-    of-datatype : {f : Once} {g : Field} → Alike f g → Same (datatype_faults s at g) (is_some (datatype_in decoded s f))
+    of-datatype : {f : Once} {g : Option ℕ} → Alike f g → Same (datatype_faults s at g) (is_some (datatype_in decoded s f))
     unfolding datatype_faults datatype_in datatype_rule of_kind
     of-datatype absent = same_some (missing (close_at s at)) []
     of-datatype (one k) = both (is_string_at s k)
@@ -78,13 +77,13 @@ module _ (s : List ℕ) where
     of-given true d k = of-string s k (λ t. rule (is_format d t) (other_rule k))
     of-given false d k = same_none
 
-    by-datatype : {f : Once} {g : Field} (d : Option Datatype) → Alike f g → Agree (format_faults s at d g) (optional (is_string_at s) f ∷ format_fits decoded s d f ∷ [])
+    by-datatype : {f : Once} {g : Option ℕ} (d : Option Datatype) → Alike f g → Agree (format_faults s at d g) (optional (is_string_at s) f ∷ format_fits decoded s d f ∷ [])
     unfolding format_faults format_fits fits_at optional holds
-    by-datatype none a = alone (held Text s (is_string_at s) (text s) a) (true ∷ []) refl
-    by-datatype (some d) absent = then same_none (last (rule (is_some (when_missing d)) (missing (close_at s at))))
-    by-datatype (some d) (one k) = kind_then k (is_string_at s k) (last (of-given (is_kept d) d k))
+    by-datatype None a = alone (held Text s (is_string_at s) (text s) a) (true ∷ []) refl
+    by-datatype (Some d) absent = then same_none (last (rule (is_some (when_missing d)) (missing (close_at s at))))
+    by-datatype (Some d) (one k) = kind_then k (is_string_at s k) (last (of-given (is_kept d) d k))
 
-    of_format : {d : Once} {e : Field} → Alike d e → {f : Once} {g : Field} → Alike f g → Agree (format_faults s at (property.datatype_in s e) g) (optional (is_string_at s) f ∷ format_fits decoded s (datatype_in decoded s d) f ∷ [])
+    of_format : {d : Once} {e : Option ℕ} → Alike d e → {f : Once} {g : Option ℕ} → Alike f g → Agree (format_faults s at (property.datatype_in s e) g) (optional (is_string_at s) f ∷ format_fits decoded s (datatype_in decoded s d) f ∷ [])
     of_format {d} {e} a {f} {g} b = rw (sym (same-datatype a)) (by-datatype (datatype_in decoded s d) b)
 
   of-property : (k : ℕ) → Agree (property_faults s k) (property_rules decoded s k)
@@ -107,7 +106,7 @@ module _ (s : List ℕ) where
 
   -- ---- a node
 
-  of-properties : {f : Once} {g : Field} → Alike f g → Same (node.each (node.property_member s) s g) (each (property_member decoded s) s f)
+  of-properties : {f : Once} {g : Option ℕ} → Alike f g → Same (node.each (node.property_member s) s g) (each (property_member decoded s) s f)
   unfolding node.each node.property_member each property_member
   of-properties absent = same_none
   of-properties (one k) = entries s k (λ m. property_faults s m.value) (λ m. property_rules decoded s m.value) (λ m. of-property m.value)
@@ -148,7 +147,7 @@ unfolding too_many among
 most s ms = (λ h. le-leb (length ms) 24 (no_more s 24 ms h), λ h. rw (drop_of_length-le ms (leb-true (length ms) 24 h)))
 
 module _ (s : List ℕ) where
-  pub of-nodes : {f : Once} {g : Field} → Alike f g → Agree (nodes_faults s g) (nodes_rules decoded s f)
+  pub of-nodes : {f : Once} {g : Option ℕ} → Alike f g → Agree (nodes_faults s g) (nodes_rules decoded s f)
   unfolding nodes_faults nodes_rules node.node_member node_member each members_in properties_of holds
   of-nodes absent = alone same_none (leb 0 24 ∷ []) refl
   of-nodes (one k) =

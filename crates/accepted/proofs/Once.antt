@@ -1,4 +1,5 @@
 -- A field that does not stand twice is the first of its name, and no member of that name is a later one.
+use Rattle.std.specs.Prelude.{None, Option, Some}
 use Prim.Native.Nat.{ℕ, ◌+◌, ◌≤◌}
 use native.Mathlib.Omega.{arith}
 use mathlib.Core.Path.{◌≡◌, refl, sym, ap, ◌∙◌}
@@ -14,18 +15,15 @@ use Rattle.fields.specs.Values as value
 use Rattle.fields.specs.Values.{decoded_at, members}
 use Rattle.fields.specs.Fields as first
 use Rattle.fields.specs.Fields.{is_first, first_of, comes_first}
-use Rattle.fields.specs.declared.Field.{Field}
-use Rattle.fields.specs.declared.Field.TheVariants as there
-use Rattle.fields.specs.declared.Field.TheVariants.{First}
 use Rattle.fields.proofs.Fields.{stays-first}
 use Rattle.fields.proofs.Names.{Ascend, ascend-more, members_ascend, same_first}
 use Rattle.accepted.specs.Once.{if_whole, decoded, read_at, passes, Once, Absent, One, Twice, one_more, is_named, field_in, field, is_twice}
 use Rattle.accepted.proofs.Same.{In, here, later, in-none}
 
 -- the same field, told both ways
-pub data Alike : Once → Field → Type 0 where
-  absent : Alike Absent there.Absent
-  one : (k : ℕ) → Alike (One k) (First k)
+pub data Alike : Once → Option ℕ → Type 0 where
+  absent : Alike Absent None
+  one : (k : ℕ) → Alike (One k) (Some k)
 
 ascend_in : {n : ℕ} {m : Member} (ms : List Member) → Ascend n ms → In m ms → n ≤ m.value
 ascend_in [] a i = in-none i
@@ -62,7 +60,7 @@ module _ (s name : List ℕ) where
   unfolding is_twice
   twice_no ms h = absurd (true≢false (rw (twice-stays ms) at h))
 
-  alike_in : (ms : List Member) {f : Once} {g : Field} → Alike f g → is_twice (field_in decoded s name f ms) ≡ false → Alike (field_in decoded s name f ms) (first.field_in s name g ms)
+  alike_in : (ms : List Member) {f : Once} {g : Option ℕ} → Alike f g → is_twice (field_in decoded s name f ms) ≡ false → Alike (field_in decoded s name f ms) (first.field_in s name g ms)
   unfolding field_in one_more first.field_in first.one_more
   alike_in [] a h = a
   alike_in (m ∷ ms) absent h = both (is_named decoded s name m)
@@ -85,18 +83,18 @@ module _ (s name : List ℕ) where
       go e (here p) f = false≢true (sym e ∙ (ap (is_named decoded s name) (sym p) ∙ q))
       go e (later j) f = f j q
 
-  first_in : (ms : List Member) → is_twice (field_in decoded s name Absent ms) ≡ false → {m : Member} → In m ms → is_named decoded s name m ≡ true → is_first m.value (first.field_in s name there.Absent ms) ≡ true
+  first_in : (ms : List Member) → is_twice (field_in decoded s name Absent ms) ≡ false → {m : Member} → In m ms → is_named decoded s name m ≡ true → is_first m.value (first.field_in s name None ms) ≡ true
   unfolding field_in one_more first.field_in first.one_more is_first
   first_in [] h i q = in-none i
   first_in (n ∷ ms) h {m} i q = both (is_named decoded s name n)
       (λ e. rw (named_as n, e, first.field_in) (hit i (one_alone n.value ms (rw (e, field_in) at h))))
       (λ e. rw (named_as n, e, first.field_in) (miss e i (first_in ms (rw (e, field_in) at h))))
     where
-      hit : In m (n ∷ ms) → (In m ms → is_named decoded s name m ≡ true → ⊥) → is_first m.value (first.field_in s name (First n.value) ms) ≡ true
+      hit : In m (n ∷ ms) → (In m ms → is_named decoded s name m ≡ true → ⊥) → is_first m.value (first.field_in s name (Some n.value) ms) ≡ true
       hit (here p) f = rw (stays-first s name n.value ms) (eq-eqb n.value m.value (ap (λ (x : Member). x.value) (sym p)))
       hit (later j) f = absurd (f j q)
 
-      miss : is_named decoded s name n ≡ false → In m (n ∷ ms) → (In m ms → is_named decoded s name m ≡ true → is_first m.value (first.field_in s name there.Absent ms) ≡ true) → is_first m.value (first.field_in s name there.Absent ms) ≡ true
+      miss : is_named decoded s name n ≡ false → In m (n ∷ ms) → (In m ms → is_named decoded s name m ≡ true → is_first m.value (first.field_in s name None ms) ≡ true) → is_first m.value (first.field_in s name None ms) ≡ true
       miss e (here p) f = absurd (false≢true (sym e ∙ (ap (is_named decoded s name) (sym p) ∙ q)))
       miss e (later j) f = f j q
 
@@ -109,7 +107,7 @@ module _ (s name : List ℕ) where
       (λ e. absurd (h n (here refl) e))
       (λ e. rw (e, field_in) (alone-one k ms (λ m i. h m (later i))))
 
-  firsts-once : (f : Field) (ms : List Member) {n : ℕ} → Ascend n ms → ((m : Member) → In m ms → is_named decoded s name m ≡ true → is_first m.value f ≡ true) → is_twice (field_in decoded s name Absent ms) ≡ false
+  firsts-once : (f : Option ℕ) (ms : List Member) {n : ℕ} → Ascend n ms → ((m : Member) → In m ms → is_named decoded s name m ≡ true → is_first m.value f ≡ true) → is_twice (field_in decoded s name Absent ms) ≡ false
   unfolding field_in one_more is_twice
   firsts-once f [] a h = refl
   firsts-once f (n ∷ ms) (ascend-more l a) h = both (is_named decoded s name n)

@@ -6,7 +6,8 @@ use mathlib.Core.Logic.{◌↔◌}
 use mathlib.Core.List.{List, [], ◌∷◌, ◌++◌}
 use mathlib.Core.Bool.{Bool, true, false, ◌&&◌, false≢true}
 use Rattle.json_text.specs.Members.{Member}
-use Rattle.faults.specs.Faults.{Fault, wrong_kind, ◌otherwise◌}
+use Rattle.faults.specs.declared.Fault.{Fault}
+use Rattle.faults.specs.Faults.{wrong_kind, ◌otherwise◌, fault}
 use Rattle.faults.proofs.Laws.{both-none}
 use Rattle.fields.specs.Fields.{of_kind, among}
 use Rattle.fields.proofs.Names.{among_first, among-rest}

@@ -1,11 +1,12 @@
 -- A decoded string: its faults against its tests.
+use Rattle.std.specs.Prelude.{None, Some}
 use Prim.Native.Nat.{ℕ, suc, ◌+◌}
 use mathlib.Core.Path.{◌≡◌, refl, sym, ap, ◌∙◌}
 use mathlib.Core.List.{List, [], ◌∷◌, ◌++◌}
 use mathlib.Core.Bool.{Bool, true, false≢true}
-use mathlib.Core.Option.{none, some}
 use Rattle.escapes.specs.Decode.{Decoded, whole, half, bytes_of}
-use Rattle.faults.specs.Faults.{Fault, other_rule, ◌otherwise◌}
+use Rattle.faults.specs.declared.Fault.{Fault}
+use Rattle.faults.specs.Faults.{other_rule, ◌otherwise◌}
 use Rattle.fields.specs.Values.{decoded_at, string_bytes}
 use Rattle.fields.specs.Fields as faults
 use Rattle.fields.specs.Fields.{decoded_faults}
@@ -14,11 +15,11 @@ use Rattle.accepted.proofs.Same.{Same, same_some, rule, Agree, never, then, last
 
 module _ (s : List ℕ) (k : ℕ) where
   -- its bytes
-  pub string-whole : {t : List ℕ} → decoded_at s k ≡ whole t → read_at decoded s k ≡ some t
+  pub string-whole : {t : List ℕ} → decoded_at s k ≡ whole t → read_at decoded s k ≡ Some t
   unfolding decoded_at read_at decoded if_whole
   string-whole e = ap if_whole e
 
-  string-half : {p : ℕ} → decoded_at s k ≡ half p → read_at decoded s k ≡ none
+  string-half : {p : ℕ} → decoded_at s k ≡ half p → read_at decoded s k ≡ None
   unfolding decoded_at read_at decoded if_whole
   string-half e = ap if_whole e
 

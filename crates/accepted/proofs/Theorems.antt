@@ -1,11 +1,11 @@
 -- What this crate promises.
+use Rattle.std.specs.Prelude.{None}
 use Prim.Native.Nat.{ℕ}
 use mathlib.Core.Path.{◌≡◌, sym}
 use mathlib.Core.Logic.{◌↔◌}
 use mathlib.Core.List.{List, []}
 use mathlib.Core.Bool.{true}
 use Rattle.json_text.specs.Strings.{is_plain}
-use Rattle.faults.specs.declared.Told.TheVariants.{Nothing}
 use Rattle.faults.proofs.Laws.{least-nothing, least-none}
 use Rattle.description.specs.Description.{faults, told}
 use Rattle.accepted.specs.Once.{as_sent, decoded, holds}
@@ -20,7 +20,7 @@ pub same : (own s : List ℕ) → (faults own s ≡ []) ↔ (holds (rules decode
 same own s = ((agree own s).tests, (agree own s).faults)
 
 -- so nothing is told of it exactly there
-pub same-told : (own s : List ℕ) → (told own s ≡ Nothing) ↔ (holds (rules decoded own s) ≡ true)
+pub same-told : (own s : List ℕ) → (told own s ≡ None) ↔ (holds (rules decoded own s) ≡ true)
 unfolding told
 same-told own s = (
   λ e. (same own s).0 (least-nothing (faults own s) e),

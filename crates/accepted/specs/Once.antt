@@ -1,6 +1,5 @@
 -- Tests, how strings are read, and the fields of an object by how often they stand there (paper 01, "The description"; paper 02, K4).
-use Rattle.std.specs.Prelude.{ℕ, List, [], ◌∷◌, Bool, true, false}
-use Rattle.std.proofs.Math.Option.{Option, none, some}
+use Rattle.std.specs.Prelude.{ℕ, List, [], ◌∷◌, Bool, true, false, Option, None, Some}
 use Rattle.text.specs.Bytes.{eq_bytes}
 use Rattle.json_text.specs.Strings.{raw_bytes, is_plain}
 use Rattle.json_text.specs.Members.{Member}
@@ -26,13 +25,13 @@ Reading = List ℕ → Option (List ℕ)
 -- Paper 01: "House rule: no backslash in a field name of these objects nor in the strings `homie`, `datatype`, `root`, `parent`, a kept `format`, or an ID in
 -- `children`."
 unfoldable pub as_sent : Reading
-as_sent raw = elim (is_plain raw) [ true ↦ some raw | false ↦ none ]
+as_sent raw = elim (is_plain raw) [ true ↦ Some raw | false ↦ None ]
 
 -- Paper 02, K4: these strings "are now decoded by RFC 8259 before any rule is applied, surrogate pairs included .. That rule falls .. half a surrogate pair in
 -- such a string is 25"
 unfoldable pub if_whole : Decoded → Option (List ℕ)
-if_whole (whole t) = some t
-if_whole (half p) = none
+if_whole (whole t) = Some t
+if_whole (half p) = None
 
 unfoldable pub decoded : Reading
 decoded raw = if_whole (decode raw)
@@ -43,8 +42,8 @@ read_at read s k = read (raw_bytes s k)
 
 -- it is allowed, and passes a test
 unfoldable pub passes : (List ℕ → Bool) → Option (List ℕ) → Bool
-passes test none = false
-passes test (some t) = test t
+passes test None = false
+passes test (Some t) = test t
 
 unfoldable pub is_read : List ℕ → Bool
 is_read t = true

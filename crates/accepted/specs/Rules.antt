@@ -1,7 +1,6 @@
 -- Paper 01, "The description", as a list of tests: a description is taken where each of them holds. `own` is the device's ID, `s` the text; `read` is how its
 -- strings are read: `as_sent` in paper 01, `decoded` since paper 02's K4.
-use Rattle.std.specs.Prelude.{ℕ, List, [], ◌∷◌, ◌++◌, Bool, true, false, not, ◌&&◌, ◌||◌, length, leb}
-use Rattle.std.proofs.Math.Option.{Option, none, some}
+use Rattle.std.specs.Prelude.{ℕ, List, [], ◌∷◌, ◌++◌, Bool, true, false, not, ◌&&◌, ◌||◌, length, leb, Option, None, Some, Err, Ok, Result}
 use Rattle.text.specs.Bytes.{eq_bytes}
 use Rattle.text.specs.Ids.{is_id}
 use Rattle.text.specs.Utf8.{is_utf8}
@@ -9,8 +8,6 @@ use Rattle.numbers.specs.Integer.{integer}
 use Rattle.json_text.specs.Bytes.{ws}
 use Rattle.json_text.specs.Value.{document_of}
 use Rattle.json_text.specs.Members.{Member}
-use Rattle.json_text.specs.declared.Scan.{Scan}
-use Rattle.json_text.specs.declared.Scan.TheVariants.{End, Bad}
 use Rattle.ranges.specs.Ranges.{is_some}
 use Rattle.payload.specs.Datatypes.{datatype_named}
 use Rattle.payload.specs.Formats.{is_format, when_missing}
@@ -37,14 +34,14 @@ array_of test s k = is_array s k && all (λ m. test m.value) (elements s k)
 
 -- the datatype that a string names
 unfoldable pub type_named : Option (List ℕ) → Option Datatype
-type_named none = none
-type_named (some t) = datatype_named t
+type_named None = None
+type_named (Some t) = datatype_named t
 
 -- "`datatype` (required, one of the nine above)": the datatype that a field names
 unfoldable pub datatype_in : Reading → List ℕ → Once → Option Datatype
-datatype_in read s Absent = none
-datatype_in read s (One k) = elim (is_string_at s k) [ true ↦ type_named (read_at read s k) | false ↦ none ]
-datatype_in read s Twice = none
+datatype_in read s Absent = None
+datatype_in read s (One k) = elim (is_string_at s k) [ true ↦ type_named (read_at read s k) | false ↦ None ]
+datatype_in read s Twice = None
 
 -- the string at k is a format of the datatype. "Formats of other types are not kept and may be any string."
 unfoldable pub fits_at : Reading → List ℕ → Datatype → ℕ → Bool
@@ -52,10 +49,10 @@ fits_at read s d k = not (is_kept d) || passes (is_format d) (read_at read s k)
 
 -- the format, given or not, is valid for the datatype
 unfoldable pub format_fits : Reading → List ℕ → Option Datatype → Once → Bool
-format_fits read s none f = true
-format_fits read s (some d) Absent = is_some (when_missing d)
-format_fits read s (some d) (One k) = fits_at read s d k
-format_fits read s (some d) Twice = true
+format_fits read s None f = true
+format_fits read s (Some d) Absent = is_some (when_missing d)
+format_fits read s (Some d) (One k) = fits_at read s d k
+format_fits read s (Some d) Twice = true
 
 -- "A property: `datatype` (required, one of the nine above), `name`, `unit`, `format` strings, `settable` (default false), `retained`
 -- (default true) booleans.": the fields of the object at k
@@ -158,9 +155,9 @@ unfoldable pub device_rules : List ℕ → Reading → List ℕ → ℕ → List
 device_rules own read s at = is_object s at ∷ names_read read s at ∷ device_field_rules own read s at
 
 -- the reader of JSON, nested at most 16 deep, takes the text
-unfoldable pub is_end : Scan → Bool
-is_end (End e) = true
-is_end (Bad e) = false
+unfoldable pub is_end : Result ℕ ℕ → Bool
+is_end (Ok e) = true
+is_end (Err e) = false
 
 -- "A JSON object, white space around allowed, of at most 8,192 bytes, nesting at most 16." (a JSON text is UTF-8: RFC 8259, 8.1)
 unfoldable pub rules : Reading → (own s : List ℕ) → List Bool

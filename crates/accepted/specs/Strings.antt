@@ -1,6 +1,5 @@
 -- The strings that paper 01's backslash rule is about, which K4 decodes: their places in the text s.
-use Rattle.std.specs.Prelude.{ℕ, List, [], ◌∷◌, ◌++◌, Bool, true, false}
-use Rattle.std.proofs.Math.Option.{Option, none, some}
+use Rattle.std.specs.Prelude.{ℕ, List, [], ◌∷◌, ◌++◌, Bool, true, false, Option, None, Some}
 use Rattle.json_text.specs.Bytes.{ws}
 use Rattle.json_text.specs.Strings.{raw_bytes, is_plain}
 use Rattle.json_text.specs.Members.{Member}
@@ -39,8 +38,8 @@ names_of s at = throughout (λ m. itself m.name) (members s at)
 
 -- "a kept `format`"
 unfoldable pub kept_in : Option Datatype → Once → List ℕ
-kept_in none f = []
-kept_in (some d) f = elim (is_kept d) [ true ↦ in_field itself f | false ↦ [] ]
+kept_in None f = []
+kept_in (Some d) f = elim (is_kept d) [ true ↦ in_field itself f | false ↦ [] ]
 
 -- of the property at k
 unfoldable pub property_strings : List ℕ → ℕ → List ℕ

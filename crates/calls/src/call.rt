@@ -1,8 +1,5 @@
 // A line's call: its words read, and made on the table.
-use super::decode::{KindRead, Spelt};
 use super::{decode, say};
-use lines::flag::FlagRead;
-use lines::number::NumberRead;
 use rules::LaneKind;
 use text::Place;
 
@@ -25,7 +22,7 @@ fn one(mem: &mut [u8], verb: &[u8], out: &mut [u8]) -> usize {
 
 // `nth I`
 fn nth(mem: &[u8], place: &[u8], out: &mut [u8]) -> usize {
-    let NumberRead::Value(i) = lines::number::read(place) else {
+    let Some(i) = lines::number::read(place) else {
         return say::unknown(out);
     };
     say::id(out, mem, questions::nth(mem, i as usize))
@@ -57,7 +54,7 @@ fn two(mem: &[u8], line: &[u8], space: &mut [u8], out: &mut [u8]) -> usize {
     if text::same(verb, b"nth") {
         return nth(mem, lines::word::at(line, 1), out);
     }
-    let Spelt::At { place } = decode::word(line, 1, space, 0) else {
+    let Some(place) = decode::word(line, 1, space, 0) else {
         return say::unknown(out);
     };
     of_device(mem, verb, decode::bytes(space, place), out)
@@ -68,10 +65,10 @@ fn three(mem: &[u8], line: &[u8], space: &mut [u8], out: &mut [u8]) -> usize {
     if !text::same(lines::word::at(line, 0), b"property") {
         return say::unknown(out);
     }
-    let Spelt::At { place } = decode::word(line, 1, space, 0) else {
+    let Some(place) = decode::word(line, 1, space, 0) else {
         return say::unknown(out);
     };
-    let NumberRead::Value(i) = lines::number::read(lines::word::at(line, 2)) else {
+    let Some(i) = lines::number::read(lines::word::at(line, 2)) else {
         return say::unknown(out);
     };
     let p = questions::property_of(mem, decode::bytes(space, place), i as usize);
@@ -106,10 +103,10 @@ fn message_of(
     space: &mut [u8],
     out: &mut [u8],
 ) -> usize {
-    let Spelt::At { place: t } = decode::word(line, 2, space, 0) else {
+    let Some(t) = decode::word(line, 2, space, 0) else {
         return say::unknown(out);
     };
-    let Spelt::At { place: p } = decode::word(line, 4, space, t.end) else {
+    let Some(p) = decode::word(line, 4, space, t.end) else {
         return say::unknown(out);
     };
     send(mem, time, space, t, retained, p, out)
@@ -117,10 +114,10 @@ fn message_of(
 
 // `message TIME TOPICHEX 0|1 PAYLOADHEX`
 fn message(mem: &mut [u8], line: &[u8], space: &mut [u8], out: &mut [u8]) -> usize {
-    let NumberRead::Value(time) = lines::number::read(lines::word::at(line, 1)) else {
+    let Some(time) = lines::number::read(lines::word::at(line, 1)) else {
         return say::unknown(out);
     };
-    let FlagRead::Is(retained) = lines::flag::read(lines::word::at(line, 3)) else {
+    let Some(retained) = lines::flag::read(lines::word::at(line, 3)) else {
         return say::unknown(out);
     };
     message_of(mem, time, retained, line, space, out)
@@ -147,13 +144,13 @@ fn ask_lane(
 
 // The three IDs of a lane of this kind.
 fn lane_of(mem: &[u8], line: &[u8], space: &mut [u8], kind: LaneKind, out: &mut [u8]) -> usize {
-    let Spelt::At { place: d } = decode::word(line, 1, space, 0) else {
+    let Some(d) = decode::word(line, 1, space, 0) else {
         return say::unknown(out);
     };
-    let Spelt::At { place: n } = decode::word(line, 2, space, d.end) else {
+    let Some(n) = decode::word(line, 2, space, d.end) else {
         return say::unknown(out);
     };
-    let Spelt::At { place: p } = decode::word(line, 3, space, n.end) else {
+    let Some(p) = decode::word(line, 3, space, n.end) else {
         return say::unknown(out);
     };
     ask_lane(mem, space, d, n, p, kind, out)
@@ -161,7 +158,7 @@ fn lane_of(mem: &[u8], line: &[u8], space: &mut [u8], kind: LaneKind, out: &mut 
 
 // `lane IDHEX NODEHEX PROPHEX value|target|asked`
 fn lane(mem: &[u8], line: &[u8], space: &mut [u8], out: &mut [u8]) -> usize {
-    let KindRead::Is(kind) = decode::kind(lines::word::at(line, 4)) else {
+    let Some(kind) = decode::kind(lines::word::at(line, 4)) else {
         return say::unknown(out);
     };
     lane_of(mem, line, space, kind, out)

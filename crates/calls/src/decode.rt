@@ -1,53 +1,38 @@
 // Words of a line, decoded.
-use lines::hex::Decoded;
 use rules::LaneKind;
 use text::Place;
 
-#[derive(Clone, Copy)]
-pub enum Spelt {
-    Nothing,
-    At { place: Place },
-}
-
 // The bytes that the word of number k writes, put into the space from a place on.
-pub(crate) fn word(line: &[u8], k: usize, space: &mut [u8], from: usize) -> Spelt {
+pub(crate) fn word(line: &[u8], k: usize, space: &mut [u8], from: usize) -> Option<Place> {
     if from > space.len() {
-        return Spelt::Nothing;
+        return None;
     }
-    let Decoded::Bytes(n) = lines::hex::decode(lines::word::at(line, k), &mut space[from..]) else {
-        return Spelt::Nothing;
+    let Some(n) = lines::hex::decode(lines::word::at(line, k), &mut space[from..]) else {
+        return None;
     };
     if n > space.len() - from {
-        return Spelt::Nothing;
+        return None;
     }
-    Spelt::At {
-        place: Place {
-            start: from,
-            end: from + n,
-        },
-    }
+    Some(Place {
+        start: from,
+        end: from + n,
+    })
 }
 
 pub(crate) fn bytes(space: &[u8], p: Place) -> &[u8] {
     text::slice(space, p.start, p.end)
 }
 
-#[derive(Clone, Copy)]
-pub enum KindRead {
-    Nothing,
-    Is(LaneKind),
-}
-
 // `value`, `target` or `asked`.
-pub(crate) fn kind(w: &[u8]) -> KindRead {
+pub(crate) fn kind(w: &[u8]) -> Option<LaneKind> {
     if text::same(w, b"value") {
-        return KindRead::Is(LaneKind::Value);
+        return Some(LaneKind::Value);
     }
     if text::same(w, b"target") {
-        return KindRead::Is(LaneKind::Target);
+        return Some(LaneKind::Target);
     }
     if text::same(w, b"asked") {
-        return KindRead::Is(LaneKind::Asked);
+        return Some(LaneKind::Asked);
     }
-    KindRead::Nothing
+    None
 }

@@ -1,7 +1,6 @@
 // A list of calls on one table: a call on each line of standard input, its answer on a line of standard output.
 #![tactic(auto)]
 
-use lines::Input;
 use opening::Opening;
 use std::alloc::{AllocError, Global};
 use std::io;
@@ -54,7 +53,7 @@ fn answer_all(
 ) -> io::Result<()> {
     let mut at: usize = 0;
     while at < input.len() {
-        let Part::Found { start, end, next } = text::next_part(input, at, b'\n') else {
+        let Some(Part { start, end, next }) = text::next_part(input, at, b'\n') else {
             return Ok(());
         };
         answer_line(to, mem, text::slice(input, start, end), space)?;
@@ -73,7 +72,7 @@ fn answer_early(to: &mut impl Write, line: &[u8], space: &mut [u8]) -> io::Resul
 fn before(to: &mut impl Write, input: &[u8], space: &mut [u8]) -> io::Result<usize> {
     let mut at: usize = 0;
     while at < input.len() {
-        let Part::Found { start, end, next } = text::next_part(input, at, b'\n') else {
+        let Some(Part { start, end, next }) = text::next_part(input, at, b'\n') else {
             return Ok(at);
         };
         let line = text::slice(input, start, end);
@@ -96,13 +95,12 @@ fn open(to: &mut impl Write, mem: &mut [u8], domain: &[u8], d: usize, j: usize) 
 fn opened(
     to: &mut impl Write,
     mem: &mut [u8],
+    asked: Opening,
     input: &[u8],
     space: &mut [u8],
-    domain: usize,
-    d: usize,
-    j: usize,
 ) -> io::Result<()> {
-    open(to, mem, text::slice(space, 0, domain), d, j)?;
+    let domain = text::slice(space, 0, asked.domain);
+    open(to, mem, domain, asked.d, asked.j)?;
     answer_all(to, mem, input, space)
 }
 
@@ -110,38 +108,31 @@ fn opened(
 fn lend(
     to: &mut impl Write,
     mem: &mut [u8],
-    size: usize,
+    asked: Opening,
     input: &[u8],
     space: &mut [u8],
-    domain: usize,
-    d: usize,
-    j: usize,
 ) -> io::Result<()> {
-    if size > mem.len() {
+    if asked.size > mem.len() {
         return Ok(());
     }
-    opened(to, &mut mem[0..size], input, space, domain, d, j)
+    opened(to, &mut mem[..asked.size], asked, input, space)
 }
 
 // The input from the opening on.
 fn after(alloc: Global, to: &mut impl Write, input: &[u8], space: &mut [u8]) -> io::Result<()> {
-    let Part::Found { start, end, next } = text::next_part(input, 0, b'\n') else {
+    let Some(Part { start, end, next }) = text::next_part(input, 0, b'\n') else {
         return Ok(());
     };
-    let Opening::Asks { domain, d, j, size } = opening::read(text::slice(input, start, end), space)
-    else {
+    let Some(asked) = opening::read(text::slice(input, start, end), space) else {
         return Ok(());
     };
     let mut mem = memory(alloc)?;
     lend(
         to,
         mem.as_mut_slice(),
-        size,
+        asked,
         text::slice(input, next, input.len()),
         space,
-        domain,
-        d,
-        j,
     )
 }
 
@@ -156,7 +147,7 @@ fn main(rt: HostRuntime) -> io::Result<()> {
     let mut input = input_space(rt.alloc())?;
     let mut to = rt.stdout();
     match lines::read_input(&mut rt.stdin(), input.as_mut_slice())? {
-        Input::Bytes(n) => answer(rt.alloc(), &mut to, text::slice(input.as_slice(), 0, n)),
-        Input::TooLong => to.write_all(b"too long\n"),
+        Some(n) => answer(rt.alloc(), &mut to, text::slice(input.as_slice(), 0, n)),
+        None => to.write_all(b"too long\n"),
     }
 }

@@ -1,62 +1,49 @@
 // The opening: `open DOMAINHEX D J SIZE`.
-use lines::hex::Decoded;
-use lines::number::NumberRead;
 
 // What is asked for: the domain stands in the first bytes of the space.
 #[derive(Clone, Copy)]
-pub enum Opening {
-    Nothing,
-    Asks {
-        domain: usize,
-        d: usize,
-        j: usize,
-        size: usize,
-    },
+pub(crate) struct Opening {
+    pub domain: usize,
+    pub d: usize,
+    pub j: usize,
+    pub size: usize,
 }
 
 // The numbers D, J and SIZE, which is at most 8,192·129 + 64.
-fn numbers(line: &[u8], domain: usize) -> Opening {
-    let NumberRead::Value(d) = lines::number::read(lines::word::at(line, 2)) else {
-        return Opening::Nothing;
+fn numbers(line: &[u8], domain: usize) -> Option<Opening> {
+    let Some(d) = lines::number::read(lines::word::at(line, 2)) else {
+        return None;
     };
-    let NumberRead::Value(j) = lines::number::read(lines::word::at(line, 3)) else {
-        return Opening::Nothing;
+    let Some(j) = lines::number::read(lines::word::at(line, 3)) else {
+        return None;
     };
-    let NumberRead::Value(size) = lines::number::read(lines::word::at(line, 4)) else {
-        return Opening::Nothing;
+    let Some(size) = lines::number::read(lines::word::at(line, 4)) else {
+        return None;
     };
     if size > 1056832 {
-        return Opening::Nothing;
+        return None;
     }
-    Opening::Asks {
-        domain: domain,
+    Some(Opening {
+        domain,
         d: d as usize,
         j: j as usize,
         size: size as usize,
-    }
+    })
 }
 
-pub(crate) fn read(line: &[u8], space: &mut [u8]) -> Opening {
+pub(crate) fn read(line: &[u8], space: &mut [u8]) -> Option<Opening> {
     if lines::word::count(line) != 5 {
-        return Opening::Nothing;
+        return None;
     }
     if !text::same(lines::word::at(line, 0), b"open") {
-        return Opening::Nothing;
+        return None;
     }
-    let Decoded::Bytes(n) = lines::hex::decode(lines::word::at(line, 1), space) else {
-        return Opening::Nothing;
+    let Some(n) = lines::hex::decode(lines::word::at(line, 1), space) else {
+        return None;
     };
     numbers(line, n)
 }
 
 pub(crate) fn is_one(line: &[u8], space: &mut [u8]) -> bool {
-    match read(line, space) {
-        Opening::Nothing => false,
-        Opening::Asks {
-            domain: _,
-            d: _,
-            j: _,
-            size: _,
-        } => true,
-    }
+    read(line, space).is_some()
 }

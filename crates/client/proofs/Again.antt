@@ -1,4 +1,5 @@
 -- A message sent again after a step back has the answer that it had.
+use Rattle.std.specs.Prelude.{Result, Ok, Err}
 use Prim.Native.Nat.{ℕ}
 use mathlib.Core.Path.{◌≡◌, refl, sym, ap, ap₂, ◌∙◌, subst}
 use mathlib.Core.List.{List, [], ◌∷◌}
@@ -16,11 +17,10 @@ use Rattle.memory.specs.State.{state}
 use Rattle.lookup.specs.Meaning.{Sound, Opening, opening_of, means}
 use Rattle.lookup.specs.Contract.{Did, Opened, says_taken, is_taken, is_openable, open_answer}
 use Rattle.lookup.proofs.Demand.{reversible}
-use Rattle.table.specs.declared.Outcome.{Outcome}
-use Rattle.table.specs.declared.Outcome.TheVariants.{Taken, Refused, Faulty}
+use Rattle.table.specs.declared.Error.{Error}
 use Rattle.table.specs.Outcome.{said}
 use Rattle.questions.specs.Meaning.{says_number}
-use Rattle.questions.specs.declared.Number.TheVariants as number
+use Rattle.answer.specs.declared.Refused.TheVariants.{BadOpening}
 use Rattle.client.specs.Sent.{SentTwice}
 
 -- the book is blank again
@@ -119,13 +119,12 @@ taken_open : {m₀ m₁ domain : List ℕ} {a : Answer Value} → Opened m₀ do
 taken_open {m₀} {m₁} {domain} o = ap is_taken o.answered ∙ opened (is_openable domain 4 3 (length m₀))
 
 -- an outcome that is not the first of the three
-not_taken : (r : Outcome) → (r ≡ Taken → ⊥) → is_taken (said r) ≡ false
+not_taken : (r : Result Unit Error) → ((u : Unit) → r ≡ Ok u → ⊥) → is_taken (said r) ≡ false
 unfolding is_taken
-not_taken Taken k = absurd (k refl)
-not_taken (Refused n) k = refl
-not_taken (Faulty n p) k = refl
+not_taken (Ok tt) k = absurd (k tt refl)
+not_taken (Err e) k = refl
 
-pub refused-right : (m₀ m₁ domain : List ℕ) (x : messages.Message) (r : Outcome) → Opened m₀ domain 4 3 m₁ (said r) → (r ≡ Taken → ⊥) → SentTwice m₀ domain x m₁ (said r) (said r) (says_number (number.Refused 5))
+pub refused-right : (m₀ m₁ domain : List ℕ) (x : messages.Message) (r : Result Unit Error) → Opened m₀ domain 4 3 m₁ (said r) → ((u : Unit) → r ≡ Ok u → ⊥) → SentTwice m₀ domain x m₁ (said r) (said r) (says_number (Err BadOpening))
 unfolding is_taken open_answer says_number
 refused-right m₀ m₁ domain x r o k =
     let t = not_taken r k in
@@ -133,8 +132,8 @@ refused-right m₀ m₁ domain x r o k =
     let s : said r ≡ refused (only 5) = o.answered ∙ ap open_answer f in
     record { unopened = λ h. (s, s, refl, o.refused t); judged = λ h. absurd (false≢true (sym f ∙ h)); alike = λ h. refl; counted = λ h. absurd (false≢true (sym f ∙ h)); sound = λ h. absurd (false≢true (sym f ∙ h)); means = λ h. absurd (false≢true (sym f ∙ h)); kept = o.kept; beyond = o.beyond }
 
-pub sent-right : (m₀ m₁ m₂ m₃ m₄ domain : List ℕ) (x : messages.Message) (r : Outcome) (first undone again count : Answer Value) → Opened m₀ domain 4 3 m₁ (said r) → r ≡ Taken → Did (message x) m₁ m₂ first → Did step_back m₂ m₃ undone → Did (message x) m₃ m₄ again → Did (question ask_count) m₄ m₄ count → SentTwice m₀ domain x m₄ first again count
+pub sent-right : (m₀ m₁ m₂ m₃ m₄ domain : List ℕ) (x : messages.Message) (r : Result Unit Error) (first undone again count : Answer Value) → Opened m₀ domain 4 3 m₁ (said r) → {u : Unit} → r ≡ Ok u → Did (message x) m₁ m₂ first → Did step_back m₂ m₃ undone → Did (message x) m₃ m₄ again → Did (question ask_count) m₄ m₄ count → SentTwice m₀ domain x m₄ first again count
 unfolding is_taken says_taken
 sent-right m₀ m₁ m₂ m₃ m₄ domain x r first undone again count o e p q s k =
-    let t : is_taken (said r) ≡ true = ap (λ (y : Outcome). is_taken (said y)) e in
+    let t : is_taken (said r) ≡ true = ap (λ (y : Result Unit Error). is_taken (said y)) e in
     record { unopened = λ h. absurd (false≢true (sym h ∙ sym (taken_open o) ∙ t)); judged = λ h. first_is o t p q s k; alike = λ h. again_is o t p q s k; counted = λ h. count_is o t p q s k; sound = λ h. sound o t p q s k; means = λ h. meant o t p q s k; kept = kept o t p q s k; beyond = beyond o t p q s k }

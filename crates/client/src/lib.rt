@@ -6,15 +6,15 @@ ghost use Rattle.table.specs.Outcome.{said};
 ghost use Rattle.questions.specs.Meaning.{says_number};
 ghost use Rattle.client.specs.Sent.{SentTwice};
 
-use questions::Number;
-use table::Outcome;
+use answer::Refused;
+use table::Error;
 
 // The answers to a message that was sent twice, and how many devices there are then.
 #[derive(Clone, Copy)]
 pub struct Sent {
-    first: Outcome,
-    again: Outcome,
-    count: Number,
+    first: Result<(), Error>,
+    again: Result<(), Error>,
+    count: Result<u32, Refused>,
 }
 
 // Opens a table of four devices and three steps back, sends a message, steps back, and sends it again: it has the same answer. Then counts the devices.
@@ -29,15 +29,15 @@ pub fn send_twice(
     ensures { SentTwice mem.old domain.now (sent time topic.now retained payload.now) mem.new (said result.first) (said result.again) (says_number result.count) }
 {
     let opened = table::open(mem, domain, 4, 3);
-    let Outcome::Taken = opened else {
+    let Ok(()) = opened else {
         return Sent {
             first: opened,
             again: opened,
-            count: Number::Refused(5),
+            count: Err(Refused::BadOpening),
         };
     };
     let first = table::message(mem, time, topic, retained, payload);
-    table::step_back(mem);
+    let _ = table::step_back(mem);
     let again = table::message(mem, time, topic, retained, payload);
     let count = questions::count(mem);
     Sent {

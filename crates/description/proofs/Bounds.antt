@@ -1,33 +1,28 @@
 -- What is told of a description: a place of at most 8,192, and a number from 21 to 25.
+use Rattle.std.specs.Prelude.{Option, None, Some, Err, Ok, Result}
 use Prim.Native.Nat.{ℕ, zero, suc, ◌+◌, ◌≤◌, ◌<◌}
 use native.Mathlib.Omega.{arith}
 use mathlib.Core.Path.{◌≡◌, refl, sym, ◌∙◌}
 use mathlib.Core.List.{List, [], ◌∷◌, ◌++◌}
 use mathlib.Core.Bool.{Bool, true, false}
-use mathlib.Core.Option.{Option, none, some}
 use lib.ListN.{length, drop}
 use lib.Dec.{eqb}
 use Rattle.text.proofs.Bytes.{both}
 use Rattle.json_text.specs.Bytes.{byte, ws}
 use Rattle.json_text.specs.Value.{key_at, value_at}
 use Rattle.json_text.specs.Members.{Member, next_at, item_at, element_at, member_at, list_from, members_at, elements_at}
-use Rattle.json_text.specs.declared.Scan.{Scan}
-use Rattle.json_text.specs.declared.Scan.TheVariants.{End, Bad}
 use Rattle.json_text.specs.declared.Item.{Item}
-use Rattle.json_text.specs.declared.Item.TheVariants as item
 use Rattle.json_grammar.specs.Place.{bad_places}
 use Rattle.json_grammar.proofs.Stops.{ws_stops}
 use Rattle.json_grammar.proofs.Ends.{Past, value-past, token-ends, begin-ends}
 use Rattle.json_grammar.proofs.Smallest.{fault-min, none_wrong}
-use Rattle.faults.specs.Faults.{Fault, missing, repeated, is_earlier, earlier, least, ◌otherwise◌}
-use Rattle.faults.specs.declared.Told.{Told}
-use Rattle.faults.specs.declared.Told.TheVariants.{Nothing, At}
+use Rattle.faults.specs.declared.Fault.{Fault}
+use Rattle.faults.specs.declared.FaultKind.{FaultKind}
+use Rattle.faults.specs.Faults.{missing, repeated, is_earlier, earlier, least, ◌otherwise◌, fault_number}
 use Rattle.fields.specs.Values.{is_array, is_object, members, elements, decoded_at, is_named}
 use Rattle.fields.specs.Fields.{one_more, field_in, field, members_in, of_kind, among, string_faults, unless_half, decoded_faults, id_rule, id_faults, array_faults, kind_faults, field_faults, close_at, comes_first, repeat_faults, name_faults_of, name_faults, entry_faults}
 use Rattle.fields.proofs.Decoded.{half-inside}
 use Rattle.escapes.specs.Decode.{Decoded, whole, half}
-use Rattle.fields.specs.declared.Field.{Field}
-use Rattle.fields.specs.declared.Field.TheVariants.{Absent, First}
 use Rattle.fields.specs.declared.Kind.{Kind}
 use Rattle.fields.specs.declared.Kind.TheVariants.{Text, Flag, Object, Ids, Texts}
 use Rattle.fields.specs.declared.Owner.{Owner}
@@ -64,30 +59,24 @@ module _ {A : Type 0} {P : A → Type 0} where
 
 -- ---- what is told of faults
 
--- a place of at most b, and one of the numbers
-record Bounded (b p n : ℕ) : Type 0 where
-  short : p ≤ b
-  from : 21 ≤ n
-  upto : n ≤ 25
-
--- every fault is so bounded, and so is what is told
+-- every fault has a place of at most b, and so has what is told
 abbrev Within : ℕ → List Fault → Type 0
-Within b fs = All (λ (f : Fault). Bounded b f.place f.number) fs
+Within b fs = All (λ (f : Fault). f.place ≤ b) fs
 
-abbrev ToldWithin : ℕ → Told → Type 0
-ToldWithin b Nothing = Unit {0}
-ToldWithin b (At p n) = Bounded b p n
+abbrev ToldWithin : ℕ → Option Fault → Type 0
+ToldWithin b None = Unit {0}
+ToldWithin b (Some f) = f.place ≤ b
 
-earlier-within : (b : ℕ) (x y : Told) → ToldWithin b x → ToldWithin b y → ToldWithin b (earlier x y)
+earlier-within : (b : ℕ) (x y : Option Fault) → ToldWithin b x → ToldWithin b y → ToldWithin b (earlier x y)
 unfolding earlier
-earlier-within b Nothing y h k = k
-earlier-within b (At p m) Nothing h k = h
-earlier-within b (At p m) (At q n) h k = both (is_earlier p m q n) (λ e. rw (e, earlier) h) (λ e. rw (e, earlier) k)
+earlier-within b None y h k = k
+earlier-within b (Some f) None h k = h
+earlier-within b (Some f) (Some g) h k = both (is_earlier f g) (λ e. rw (e, earlier) h) (λ e. rw (e, earlier) k)
 
 least-within : (b : ℕ) (fs : List Fault) → Within b fs → ToldWithin b (least fs)
 unfolding least
 least-within b [] all_none = tt
-least-within b (f ∷ fs) (all_more h w) = earlier-within b (At f.place f.number) (least fs) h (least-within b fs w)
+least-within b (f ∷ fs) (all_more h w) = earlier-within b (Some f) (least fs) h (least-within b fs w)
 
 -- ---- items, fields and the closing brace stand in the text
 
@@ -104,17 +93,17 @@ module _ (s : List ℕ) (b : ℕ) (long : length s ≤ b) where
       (λ q. let w = ws_stops s e in rw (q, next_at) (omega arith))
 
   -- an item's value, and where the next one begins
-  abbrev Lies : Item → Type 0
-  Lies (item.At k e n) = (k ≤ length s) × (n ≤ length s)
-  Lies item.Done = Unit {0}
+  abbrev Lies : Option Item → Type 0
+  Lies (Some t) = (t.value ≤ length s) × (t.next ≤ length s)
+  Lies None = Unit {0}
 
   item-lies : (k : ℕ) → Lies (item_at s k)
   unfolding item_at
   item-lies k = go (value_at 16 s k) refl (value-past s 16 k)
     where
-      go : (r : Scan) → value_at 16 s k ≡ r → Past s k r → Lies (item_at s k)
-      go (End e) q p = let n = next-inside e p.1 in rw (q, item_at) (omega arith, n)
-      go (Bad e) q p = rw (q, item_at) tt
+      go : (r : Result ℕ ℕ) → value_at 16 s k ≡ r → Past s k r → Lies (item_at s k)
+      go (Ok e) q p = let n = next-inside e p.1 in rw (q, item_at) (omega arith, n)
+      go (Err e) q p = rw (q, item_at) tt
 
   element-lies : (i : ℕ) → Lies (element_at s i)
   unfolding element_at
@@ -124,19 +113,19 @@ module _ (s : List ℕ) (b : ℕ) (long : length s ≤ b) where
   unfolding member_at
   member-lies i = go (key_at s i) refl
     where
-      go : (r : Scan) → key_at s i ≡ r → Lies (member_at s i)
-      go (End k) q = rw (q, member_at) (item-lies k)
-      go (Bad e) q = rw (q, member_at) tt
+      go : (r : Result ℕ ℕ) → key_at s i ≡ r → Lies (member_at s i)
+      go (Ok k) q = rw (q, member_at) (item-lies k)
+      go (Err e) q = rw (q, member_at) tt
 
-  module _ (step : ℕ → Item) (lies : (i : ℕ) → Lies (step i)) where
+  module _ (step : ℕ → Option Item) (lies : (i : ℕ) → Lies (step i)) where
     list_inside : (f i : ℕ) → i ≤ length s → All (Inside b) (list_from step f i)
     unfolding list_from
     list_inside zero i h = all_none
     list_inside (suc f) i h = go (step i) refl (lies i) (λ j. list_inside f j)
       where
-        go : (r : Item) → step i ≡ r → Lies r → ((j : ℕ) → j ≤ length s → All (Inside b) (list_from step f j)) → All (Inside b) (list_from step (suc f) i)
-        go (item.At k e n) q l ih = rw (q, list_from) (cons (omega arith) (ih n l.1))
-        go item.Done q l ih = rw (q, list_from) all_none
+        go : (r : Option Item) → step i ≡ r → Lies r → ((j : ℕ) → j ≤ length s → All (Inside b) (list_from step f j)) → All (Inside b) (list_from step (suc f) i)
+        go (Some t) q l ih = rw (q, list_from) (cons (omega arith) (ih t.next l.1))
+        go None q l ih = rw (q, list_from) all_none
 
     -- behind an opening byte
     opened_inside : (f at k : ℕ) → eqb (byte s at) k ≡ true → k < 256 → All (Inside b) (list_from step f (ws s (at + 1)))
@@ -155,16 +144,16 @@ module _ (s : List ℕ) (b : ℕ) (long : length s ≤ b) where
       (λ q. rw (q, elements) all_none)
 
   -- the place that a field holds
-  abbrev Holds : Field → Type 0
-  Holds Absent = Unit {0}
-  Holds (First k) = k ≤ b
+  abbrev Holds : Option ℕ → Type 0
+  Holds None = Unit {0}
+  Holds (Some k) = k ≤ b
 
-  more-holds : (f : Field) (k : ℕ) → Holds f → k ≤ b → Holds (one_more f k)
+  more-holds : (f : Option ℕ) (k : ℕ) → Holds f → k ≤ b → Holds (one_more f k)
   unfolding one_more
-  more-holds Absent k h l = l
-  more-holds (First j) k h l = h
+  more-holds None k h l = l
+  more-holds (Some j) k h l = h
 
-  field_in-holds : (name : List ℕ) (f : Field) (ms : List Member) → Holds f → All (Inside b) ms → Holds (field_in s name f ms)
+  field_in-holds : (name : List ℕ) (f : Option ℕ) (ms : List Member) → Holds f → All (Inside b) ms → Holds (field_in s name f ms)
   unfolding field_in
   field_in-holds name f [] h all_none = h
   field_in-holds name f (m ∷ ms) h (all_more i v) = both (is_named s name m)
@@ -173,27 +162,27 @@ module _ (s : List ℕ) (b : ℕ) (long : length s ≤ b) where
 
   field-holds : (at : ℕ) (name : List ℕ) → Holds (field s at name)
   unfolding field
-  field-holds at name = field_in-holds name Absent (members s at) tt (members-inside at)
+  field-holds at name = field_in-holds name None (members s at) tt (members-inside at)
 
-  in-inside : (f : Field) → All (Inside b) (members_in s f)
+  in-inside : (f : Option ℕ) → All (Inside b) (members_in s f)
   unfolding members_in
-  in-inside Absent = all_none
-  in-inside (First k) = members-inside k
+  in-inside None = all_none
+  in-inside (Some k) = members-inside k
 
   close-inside : (at : ℕ) → at ≤ b → close_at s at ≤ b
   unfolding close_at
   close-inside at h = go (value_at 16 s at) refl (value-past s 16 at)
     where
-      go : (r : Scan) → value_at 16 s at ≡ r → Past s at r → close_at s at ≤ b
-      go (End e) q p = rw (q, close_at) (omega arith)
-      go (Bad e) q p = rw (q, close_at) h
+      go : (r : Result ℕ ℕ) → value_at 16 s at ≡ r → Past s at r → close_at s at ≤ b
+      go (Ok e) q p = rw (q, close_at) (omega arith)
+      go (Err e) q p = rw (q, close_at) h
 
   -- ---- faults of values and names
 
-  rule : (t : Bool) {f : Fault} → Bounded b f.place f.number → Within b (t otherwise f)
+  rule : (t : Bool) (f : Fault) → f.place ≤ b → Within b (t otherwise f)
   unfolding ◌otherwise◌
-  rule true h = all_none
-  rule false h = one h
+  rule true f h = all_none
+  rule false f h = one h
 
   of_kind_lem : (t : Bool) (k : ℕ) {fs : List Fault} → k ≤ b → Within b fs → Within b (of_kind t k fs)
   unfolding of_kind
@@ -216,11 +205,11 @@ module _ (s : List ℕ) (b : ℕ) (long : length s ≤ b) where
 
   string-within : (k : ℕ) → k ≤ b → Within b (string_faults s k)
   unfolding string_faults
-  string-within k h = rule _ (omega arith)
+  string-within k h = rule _ _ (omega arith)
 
   id-within : (k : ℕ) → k ≤ b → Within b (id_faults s k)
   unfolding id_faults id_rule
-  id-within k h = of_kind_lem _ k h (decoded-within k (λ t. rule _ (omega arith)))
+  id-within k h = of_kind_lem _ k h (decoded-within k (λ t. rule _ _ (omega arith)))
 
   array-within : (f : List ℕ → ℕ → List Fault) → ((k : ℕ) → k ≤ b → Within b (f s k)) → (k : ℕ) → k ≤ b → Within b (array_faults f s k)
   unfolding array_faults
@@ -229,15 +218,15 @@ module _ (s : List ℕ) (b : ℕ) (long : length s ≤ b) where
   kind-within : (kind : Kind) (k : ℕ) → k ≤ b → Within b (kind_faults kind s k)
   unfolding kind_faults
   kind-within Text k h = string-within k h
-  kind-within Flag k h = rule _ (omega arith)
-  kind-within Object k h = rule _ (omega arith)
+  kind-within Flag k h = rule _ _ (omega arith)
+  kind-within Object k h = rule _ _ (omega arith)
   kind-within Ids k h = array-within id_faults id-within k h
   kind-within Texts k h = array-within string_faults string-within k h
 
-  field-within : (kind : Kind) (f : Field) → Holds f → Within b (field_faults kind s f)
+  field-within : (kind : Kind) (f : Option ℕ) → Holds f → Within b (field_faults kind s f)
   unfolding field_faults
-  field-within kind Absent h = all_none
-  field-within kind (First k) h = kind-within kind k h
+  field-within kind None h = all_none
+  field-within kind (Some k) h = kind-within kind k h
 
   known-within : (kind : Kind) (at : ℕ) (name : List ℕ) → Within b (field_faults kind s (field s at name))
   known-within kind at name = field-within kind (field s at name) (field-holds at name)
@@ -247,11 +236,11 @@ module _ (s : List ℕ) (b : ℕ) (long : length s ≤ b) where
 
   name-within : (owner : Owner) (at : ℕ) → Within b (name_faults owner s at)
   unfolding name_faults name_faults_of repeat_faults
-  name-within owner at = among-within (name_faults_of owner s at) (members s at) (members-inside at) (λ m i. decoded-within m.name (λ t. rule _ (omega arith)))
+  name-within owner at = among-within (name_faults_of owner s at) (members s at) (members-inside at) (λ m i. decoded-within m.name (λ t. rule _ _ (omega arith)))
 
   entry-within : (at : ℕ) (value : List Fault) (m : Member) → Inside b m → Within b value → Within b (entry_faults s at value m)
   unfolding entry_faults id_rule
-  entry-within at value m i w = append (decoded-within m.name (λ t. rule _ (omega arith))) (go (comes_first s at m))
+  entry-within at value m i w = append (decoded-within m.name (λ t. rule _ _ (omega arith))) (go (comes_first s at m))
     where
       go : (t : Bool) → Within b (elim t [ true ↦ value | false ↦ repeated m.name ∷ [] ])
       go true = w
@@ -259,21 +248,21 @@ module _ (s : List ℕ) (b : ℕ) (long : length s ≤ b) where
 
   -- ---- a property
 
-  datatype-within : (at : ℕ) (f : Field) → at ≤ b → Holds f → Within b (datatype_faults s at f)
+  datatype-within : (at : ℕ) (f : Option ℕ) → at ≤ b → Holds f → Within b (datatype_faults s at f)
   unfolding datatype_faults datatype_rule
-  datatype-within at Absent h l = missing-within at h
-  datatype-within at (First k) h l = of_kind_lem _ k l (decoded-within k (λ t. rule _ (omega arith)))
+  datatype-within at None h l = missing-within at h
+  datatype-within at (Some k) h l = of_kind_lem _ k l (decoded-within k (λ t. rule _ _ (omega arith)))
 
   given-within : (kept : Bool) (d : Datatype) (k : ℕ) → k ≤ b → Within b (given_faults kept d s k)
   unfolding given_faults format_rule
-  given-within true d k h = decoded-within k (λ t. rule _ (omega arith))
+  given-within true d k h = decoded-within k (λ t. rule _ _ (omega arith))
   given-within false d k h = all_none
 
-  format-within : (at : ℕ) (d : Option Datatype) (f : Field) → at ≤ b → Holds f → Within b (format_faults s at d f)
+  format-within : (at : ℕ) (d : Option Datatype) (f : Option ℕ) → at ≤ b → Holds f → Within b (format_faults s at d f)
   unfolding format_faults
-  format-within at none f h l = field-within Text f l
-  format-within at (some d) Absent h l = let k = close-inside at h in rule _ (omega arith)
-  format-within at (some d) (First k) h l = of_kind_lem _ k l (given-within _ d k l)
+  format-within at None f h l = field-within Text f l
+  format-within at (Some d) None h l = let k = close-inside at h in rule _ _ (omega arith)
+  format-within at (Some d) (Some k) h l = of_kind_lem _ k l (given-within _ d k l)
 
   property-within : (k : ℕ) → k ≤ b → Within b (property_faults s k)
   unfolding property_faults property_field_faults
@@ -289,10 +278,10 @@ module _ (s : List ℕ) (b : ℕ) (long : length s ≤ b) where
 
   -- ---- a node
 
-  each_within : (f : ℕ → Member → List Fault) → ((at : ℕ) (m : Member) → Inside b m → Within b (f at m)) → (g : Field) → Within b (each f s g)
+  each_within : (f : ℕ → Member → List Fault) → ((at : ℕ) (m : Member) → Inside b m → Within b (f at m)) → (g : Option ℕ) → Within b (each f s g)
   unfolding each
-  each_within f w Absent = all_none
-  each_within f w (First k) = among-within (f k) (members s k) (members-inside k) (w k)
+  each_within f w None = all_none
+  each_within f w (Some k) = among-within (f k) (members s k) (members-inside k) (w k)
 
   property_member-within : (at : ℕ) (m : Member) → Inside b m → Within b (property_member s at m)
   unfolding property_member
@@ -326,22 +315,22 @@ module _ (s : List ℕ) (b : ℕ) (long : length s ≤ b) where
   unfolding too_many too_many_at
   many-within ms v = among-within _ (drop properties_most ms) (dropped properties_most ms v) (λ m i. decoded-within m.name (λ t. one (omega arith)))
 
-  nodes-within : (f : Field) → Within b (nodes_faults s f)
+  nodes-within : (f : Option ℕ) → Within b (nodes_faults s f)
   unfolding nodes_faults
-  nodes-within Absent = all_none
-  nodes-within (First k) = append (among-within (node_member s k) (members s k) (members-inside k) (node_member-within k)) (many-within _ (named-inside k (members s k)))
+  nodes-within None = all_none
+  nodes-within (Some k) = append (among-within (node_member s k) (members s k) (members-inside k) (node_member-within k)) (many-within _ (named-inside k (members s k)))
 
   -- ---- a device
 
-  homie-within : (at : ℕ) (f : Field) → at ≤ b → Holds f → Within b (homie_faults s at f)
+  homie-within : (at : ℕ) (f : Option ℕ) → at ≤ b → Holds f → Within b (homie_faults s at f)
   unfolding homie_faults homie_rule
-  homie-within at Absent h l = missing-within at h
-  homie-within at (First k) h l = of_kind_lem _ k l (decoded-within k (λ t. rule _ (omega arith)))
+  homie-within at None h l = missing-within at h
+  homie-within at (Some k) h l = of_kind_lem _ k l (decoded-within k (λ t. rule _ _ (omega arith)))
 
-  version-within : (at : ℕ) (f : Field) → at ≤ b → Holds f → Within b (version_faults s at f)
+  version-within : (at : ℕ) (f : Option ℕ) → at ≤ b → Holds f → Within b (version_faults s at f)
   unfolding version_faults
-  version-within at Absent h l = missing-within at h
-  version-within at (First k) h l = of_kind_lem _ k l (rule _ (omega arith))
+  version-within at None h l = missing-within at h
+  version-within at (Some k) h l = of_kind_lem _ k l (rule _ _ (omega arith))
 
   other-within : (at : ℕ) → Within b (other_faults s at)
   unfolding other_faults
@@ -355,17 +344,17 @@ module _ (s : List ℕ) (b : ℕ) (long : length s ≤ b) where
   module _ (own : List ℕ) where
     relative-within : (k : ℕ) → k ≤ b → (t : List ℕ) → Within b (relative_faults own k t)
     unfolding relative_faults
-    relative-within k h t = append (rule _ (omega arith)) (rule _ (omega arith))
+    relative-within k h t = append (rule _ _ (omega arith)) (rule _ _ (omega arith))
 
-    root-within : (f : Field) → Holds f → Within b (root_faults own s f)
+    root-within : (f : Option ℕ) → Holds f → Within b (root_faults own s f)
     unfolding root_faults
-    root-within Absent h = all_none
-    root-within (First k) h = of_kind_lem _ k h (decoded-within k (relative-within k h))
+    root-within None h = all_none
+    root-within (Some k) h = of_kind_lem _ k h (decoded-within k (relative-within k h))
 
-    parent-within : (root f : Field) → Holds f → Within b (parent_faults own s root f)
+    parent-within : (root f : Option ℕ) → Holds f → Within b (parent_faults own s root f)
     unfolding parent_faults parent_rule
-    parent-within root Absent h = all_none
-    parent-within root (First k) h = of_kind_lem _ k h (decoded-within k (λ t. append (relative-within k h t) (rule _ (omega arith))))
+    parent-within root None h = all_none
+    parent-within root (Some k) h = of_kind_lem _ k h (decoded-within k (λ t. append (relative-within k h t) (rule _ _ (omega arith))))
 
     device-within : (at : ℕ) → at ≤ b → Within b (device_faults own s at)
     unfolding device_faults device_field_faults
@@ -394,11 +383,15 @@ module _ (own s : List ℕ) where
           rw (right-told own s e) (least-within 8192 _ (device-within s 8192 long own (ws s 0) l))
       go (p ∷ ps) e = let h = fault-min s in rw (wrong-told own s (λ d. no_place (sym e ∙ d))) (omega arith)
 
-  bounded : {p n : ℕ} → told own s ≡ At p n → Bounded 8192 p n
+  bounded : {x : Fault} → told own s ≡ Some x → x.place ≤ 8192
   bounded e = rw e at tells
 
-pub told-short : (own s : List ℕ) {p n : ℕ} → told own s ≡ At p n → p ≤ 8192
-told-short own s e = (bounded own s e).short
+pub told-short : (own s : List ℕ) {x : Fault} → told own s ≡ Some x → x.place ≤ 8192
+told-short own s e = bounded own s e
 
-pub told-number : (own s : List ℕ) {p n : ℕ} → told own s ≡ At p n → (21 ≤ n) × (n ≤ 25)
-told-number own s e = let h = bounded own s e in (h.from, h.upto)
+pub number_within : (k : FaultKind) → (21 ≤ fault_number k) × (fault_number k ≤ 25)
+number_within FaultKind.NotJson = (omega arith, omega arith)
+number_within FaultKind.WrongKind = (omega arith, omega arith)
+number_within FaultKind.FieldMissing = (omega arith, omega arith)
+number_within FaultKind.NameRepeated = (omega arith, omega arith)
+number_within FaultKind.RuleBroken = (omega arith, omega arith)

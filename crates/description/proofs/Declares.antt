@@ -1,11 +1,11 @@
 -- What a description without fault shows of all that it declares.
+use Rattle.std.specs.Prelude.{None, Some, Option}
 use Prim.Native.Nat.{ℕ, ◌≤◌}
 use native.Mathlib.Omega.{arith}
 use mathlib.Core.Path.{◌≡◌, refl, sym, ap, ◌∙◌}
 use mathlib.Core.Logic.{◌⊎◌, inl, inr}
 use mathlib.Core.List.{List, [], ◌∷◌, ◌++◌}
 use mathlib.Core.Bool.{true, not, false≢true}
-use mathlib.Core.Option.{none, some}
 use lib.ListN.{length}
 use borrow.Author.Tests.{not-true}
 use Rattle.answer.specs.Answer.{gives}
@@ -14,14 +14,11 @@ use Rattle.text.specs.Ids.{is_id}
 use Rattle.text.proofs.Bytes.{eq_bytes-false}
 use Rattle.json_text.specs.Bytes.{ws}
 use Rattle.json_grammar.specs.Place.{bad_places}
-use Rattle.faults.specs.declared.Told.{Told}
-use Rattle.faults.specs.declared.Told.TheVariants.{Nothing, At}
+use Rattle.faults.specs.declared.Fault.{Fault}
 use Rattle.faults.specs.Faults.{other_rule, ◌otherwise◌}
 use Rattle.faults.proofs.Laws.{at-nothing, both-none, rule-kept, least-nothing}
 use Rattle.fields.specs.Values.{string_bytes, is_string_at, is_object}
 use Rattle.fields.specs.Fields.{field, is_present, text_in, name_faults, decoded_faults}
-use Rattle.fields.specs.declared.Field.{Field}
-use Rattle.fields.specs.declared.Field.TheVariants.{Absent, First}
 use Rattle.fields.specs.declared.Owner.TheVariants as owner
 use Rattle.properties.specs.Property.{Property, insert_all}
 use Rattle.properties.specs.Valid.{Valid, In, Arranged}
@@ -48,15 +45,15 @@ module _ (own s : List ℕ) where
         other = eq_bytes-false id own (not-true _ (rule-kept (not (eq_bytes id own)) (other_rule k) q.1));
       }
 
-  root-other : (f : Field) (id : List ℕ) → root_faults own s f ≡ [] → text_in s f ≡ some id → Other own id
+  root-other : (f : Option ℕ) (id : List ℕ) → root_faults own s f ≡ [] → text_in s f ≡ Some id → Other own id
   unfolding root_faults text_in
-  root-other Absent id h e = let z : ◌≡◌ {A = ℕ} 0 1 = cc in absurd (omega arith)
-  root-other (First k) id h e =
+  root-other None id h e = let z : ◌≡◌ {A = ℕ} 0 1 = cc in absurd (omega arith)
+  root-other (Some k) id h e =
       let t : string_bytes s k ≡ id = cc in
       rw (sym t) (other_at k (string_bytes s k) (no-faults s k (relative_faults own k) (kind-none (is_string_at s k) k (decoded_faults s k (relative_faults own k)) h).1).1)
 
-  module _ (r : Field) where
-    parent-rules : (k : ℕ) → parent_faults own s r (First k) ≡ [] → (relative_faults own k (string_bytes s k) ≡ []) × (is_present r ≡ true)
+  module _ (r : Option ℕ) where
+    parent-rules : (k : ℕ) → parent_faults own s r (Some k) ≡ [] → (relative_faults own k (string_bytes s k) ≡ []) × (is_present r ≡ true)
     unfolding parent_faults parent_rule
     parent-rules k h =
         let rules = parent_rule own (is_present r) k in
@@ -64,16 +61,16 @@ module _ (own s : List ℕ) where
         let q = both-none (relative_faults own k (string_bytes s k)) (is_present r otherwise other_rule k) w in
         (q.0, rule-kept (is_present r) (other_rule k) q.1)
 
-    parent-other : (f : Field) (id : List ℕ) → parent_faults own s r f ≡ [] → text_in s f ≡ some id → Other own id
+    parent-other : (f : Option ℕ) (id : List ℕ) → parent_faults own s r f ≡ [] → text_in s f ≡ Some id → Other own id
     unfolding text_in
-    parent-other Absent id h e = let z : ◌≡◌ {A = ℕ} 0 1 = cc in absurd (omega arith)
-    parent-other (First k) id h e = let t : string_bytes s k ≡ id = cc in rw (sym t) (other_at k (string_bytes s k) (parent-rules k h).0)
+    parent-other None id h e = let z : ◌≡◌ {A = ℕ} 0 1 = cc in absurd (omega arith)
+    parent-other (Some k) id h e = let t : string_bytes s k ≡ id = cc in rw (sym t) (other_at k (string_bytes s k) (parent-rules k h).0)
 
-  no-parent : (r f : Field) → parent_faults own s r f ≡ [] → text_in s r ≡ none → text_in s f ≡ none
+  no-parent : (r f : Option ℕ) → parent_faults own s r f ≡ [] → text_in s r ≡ None → text_in s f ≡ None
   unfolding text_in is_present
-  no-parent r Absent h e = refl
-  no-parent Absent (First k) h e = absurd (false≢true (parent-rules Absent k h).1)
-  no-parent (First j) (First k) h e = let z : ◌≡◌ {A = ℕ} 0 1 = cc in absurd (omega arith)
+  no-parent r None h e = refl
+  no-parent None (Some k) h e = absurd (false≢true (parent-rules None k h).1)
+  no-parent (Some j) (Some k) h e = let z : ◌≡◌ {A = ℕ} 0 1 = cc in absurd (omega arith)
 
 -- ---- the fields, one by one
 
@@ -133,13 +130,13 @@ module _ (own s : List ℕ) (at : ℕ) (h : device_faults own s at ≡ []) where
 -- ---- what is given has no fault
 
 -- by cases of what is told, with its equation
-by_cases {ℓ} : {X : Type ℓ} (t : Told) → (t ≡ Nothing → X) → ((q n : ℕ) → t ≡ At q n → X) → X
-by_cases Nothing f g = f refl
-by_cases (At q n) f g = g q n refl
+by_cases {ℓ} : {X : Type ℓ} (t : Option Fault) → (t ≡ None → X) → ((f : Fault) → t ≡ Some f → X) → X
+by_cases None f g = f refl
+by_cases (Some x) f g = g x refl
 
 module _ (own s : List ℕ) {x : Described} (e : describe own s ≡ gives x) where
-  nothing-told : told own s ≡ Nothing
-  nothing-told = by_cases (told own s) (λ t. t) (λ q n t. let y = told_at own s t in let z : ◌≡◌ {A = ℕ} 0 1 = cc in absurd (omega arith))
+  nothing-told : told own s ≡ None
+  nothing-told = by_cases (told own s) (λ t. t) (λ f t. let y = told_at own s t in let z : ◌≡◌ {A = ℕ} 0 1 = cc in absurd (omega arith))
 
   no_place : bad_places s ≡ []
   no_place = go (bad_places s) refl

@@ -1,8 +1,7 @@
 -- The paper's number and values of each answer: strings by content.
-use Rattle.std.specs.Prelude.{ℕ, ◌^◌, ◌≤◌, ◌≡◌, List, leb}
+use Rattle.std.specs.Prelude.{ℕ, ◌^◌, ◌≤◌, ◌≡◌, List, leb, None}
 use Rattle.answer.specs.Answer.{Answer, gives, require}
 use Rattle.numbers.specs.Whole.{stands}
-use Rattle.faults.specs.declared.Told.TheVariants.{Nothing}
 use Rattle.fields.specs.Fields.{text_in}
 use Rattle.properties.specs.Property.{Property}
 use Rattle.properties.specs.Entries.{properties_most, view}
@@ -27,7 +26,7 @@ meaning s d = answered d.told (listed s d)
 
 -- the same, field by field: a description that is taken and declares x
 pub record Shows (s : List ℕ) (d : Description) (x : Described) : Type 0 where
-  pub taken : d.told ≡ Nothing
+  pub taken : d.told ≡ None
   pub root : text_in s d.root ≡ x.root
   pub parent : text_in s d.parent ≡ x.parent
   pub version : stands (2 ^ 63) d.version ≡ x.version

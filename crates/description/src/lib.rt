@@ -4,8 +4,7 @@
 ghost use Rattle.std.specs.Prelude.{◌≡◌, true, false, ℕ, ◌≤◌, List, length};
 ghost use Rattle.text.specs.Utf8.{is_utf8};
 ghost use Rattle.json_grammar.specs.Place.{fault_place};
-ghost use Rattle.faults.specs.Faults.{least};
-ghost use Rattle.faults.specs.declared.Told.TheVariants.{At};
+ghost use Rattle.faults.specs.Faults.{least, not_json};
 ghost use Rattle.json_text.specs.Ends.{Ends};
 ghost use Rattle.fields.specs.Fields.{decoded_faults};
 ghost use Rattle.fields.specs.Known.{Knows};
@@ -14,11 +13,8 @@ ghost use Rattle.description.specs.Description.{all_digits, is_minor, is_homie, 
 ghost use Rattle.description.specs.Parts.{ReadsVersion, other_faults_in, relatives_in, Tells};
 ghost use Rattle.description.specs.Meaning.{meaning};
 
-use escapes::Decoding;
-use faults::{MISSING, NOT_JSON, OTHER_RULE, Told, WRONG_KIND};
+use faults::{Fault, FaultKind};
 use fields::{Field, Kind, Known, Owner};
-use json_text::Scan;
-use numbers::integers::IntegerRead;
 use properties::Entries;
 
 // The most bytes that a description may have.
@@ -28,174 +24,142 @@ const MOST: usize = 8192;
 // the text.
 #[derive(Clone, Copy)]
 pub struct Description {
-    pub told: Told,
+    pub told: Option<Fault>,
     pub version: u64,
-    pub root: Field,
-    pub parent: Field,
+    pub root: Option<usize>,
+    pub parent: Option<usize>,
     pub properties: Entries,
 }
 
 // A device's version, with what is told of its faults.
 #[derive(Clone, Copy)]
 pub struct VersionRead {
-    pub told: Told,
+    pub told: Option<Fault>,
     pub value: u64,
 }
 
 fn are_digits(t: &[u8]) -> bool
     ensures { result ≡ all_digits t.now }
 {
-    let mut i = 0;
-    while i < t.len() {
-        if t[i] < 48 {
-            return false;
-        }
-        if t[i] > 57 {
-            return false;
-        }
-        i += 1;
-    }
-    true
+    t.iter().all(|b| b.is_ascii_digit())
 }
 
 // Whether the bytes are 1 to 3 digits, with no leading zero unless they are `0`.
+#[tactic(auto, unfolding(crate::specs::Description::is_minor))]
 fn is_minor(t: &[u8]) -> bool
     ensures { result ≡ is_minor t.now }
 {
-    if t.len() < 1 {
-        return false;
-    }
-    if t.len() > 3 {
-        return false;
-    }
-    if !are_digits(t) {
-        return false;
-    }
-    if t[0] != 48 {
-        return true;
-    }
-    t.len() == 1
+    matches!(t.len(), 1..=3) && are_digits(t) && (t[0] != 48 || t.len() == 1)
 }
 
 // Whether the bytes are `5.` and a minor version.
 fn is_homie(t: &[u8]) -> bool
     ensures { result ≡ is_homie t.now }
 {
-    if !text::same(text::slice(t, 0, 2), b"5.") {
-        return false;
-    }
-    is_minor(text::slice(t, 2, t.len()))
+    text::same(text::slice(t, 0, 2), b"5.") && is_minor(text::slice(t, 2, t.len()))
 }
 
 // What is told of the string at `k`, which has a backslash and should be a version of the convention.
-fn escaped_homie_told(s: &[u8], k: usize) -> Told
+fn escaped_homie_told(s: &[u8], k: usize) -> Option<Fault>
     ensures { result ≡ least (decoded_faults s.now k (homie_rule k)) }
 {
     let mut version = [0u8; 8];
     match fields::decode_at(s, k, &mut version) {
-        Decoding::Half(backslash) => Told::At(backslash, OTHER_RULE),
-        Decoding::Whole(n) => {
+        Err(backslash) => Some(FaultKind::RuleBroken.at(backslash)),
+        Ok(n) => {
             if n > 8 {
-                return Told::At(k, OTHER_RULE);
+                return Some(FaultKind::RuleBroken.at(k));
             }
             if is_homie(text::slice(&version, 0, n)) {
-                return Told::Nothing;
+                return None;
             }
-            Told::At(k, OTHER_RULE)
+            Some(FaultKind::RuleBroken.at(k))
         }
     }
 }
 
 // What is told of `homie` in the object at `at`.
-fn homie_told(s: &[u8], at: usize, f: Field, ends: &[u16]) -> Told
+fn homie_told(s: &[u8], at: usize, f: Option<usize>, ends: &[u16]) -> Option<Fault>
     ensures { Ends s.now ends.now → result ≡ least (homie_faults s.now at f) }
 {
-    let Field::First(k) = f else {
-        return Told::At(fields::close_of(s, at, ends), MISSING);
+    let Some(k) = f else {
+        return Some(FaultKind::FieldMissing.at(fields::close_of(s, at, ends)));
     };
     if !fields::is_string(s, k) {
-        return Told::At(k, WRONG_KIND);
+        return Some(FaultKind::WrongKind.at(k));
     }
     if is_homie(fields::raw_bytes_by(s, k, ends)) {
-        return Told::Nothing;
+        return None;
     }
     if json_text::is_plain_by(s, k, ends) {
-        return Told::At(k, OTHER_RULE);
+        return Some(FaultKind::RuleBroken.at(k));
     }
     escaped_homie_told(s, k)
 }
 
 // No version, since this is told of it.
-fn no_version(told: Told) -> VersionRead
+fn no_version(told: Option<Fault>) -> VersionRead
     ensures { result.told ≡ told }
 {
-    VersionRead {
-        told: told,
-        value: 0,
-    }
+    VersionRead { told, value: 0 }
 }
 
 // The version that a field holds, of the device whose object is at `at`.
-fn version_of(s: &[u8], at: usize, f: Field, ends: &[u16]) -> VersionRead
+fn version_of(s: &[u8], at: usize, f: Option<usize>, ends: &[u16]) -> VersionRead
     ensures { Ends s.now ends.now → ReadsVersion s.now at f result }
 {
-    let Field::First(k) = f else {
-        return no_version(Told::At(fields::close_of(s, at, ends), MISSING));
+    let Some(k) = f else {
+        return no_version(Some(FaultKind::FieldMissing.at(fields::close_of(s, at, ends))));
     };
     if !fields::is_number(s, k) {
-        return no_version(Told::At(k, WRONG_KIND));
+        return no_version(Some(FaultKind::WrongKind.at(k)));
     }
     match numbers::integers::read_integer(fields::value_bytes_by(s, k, ends)) {
-        IntegerRead::Nothing => no_version(Told::At(k, OTHER_RULE)),
-        IntegerRead::Value(v) => VersionRead {
-            told: Told::Nothing,
+        None => no_version(Some(FaultKind::RuleBroken.at(k))),
+        Some(v) => VersionRead {
+            told: None,
             value: v,
         },
     }
 }
 
 // What is told of the fields that have no rule but their kind.
-fn others_told(s: &[u8], seen: &[usize; 16], ends: &[u16]) -> Told
-    ensures { Ends s.now ends.now → result ≡ least (other_faults_in s.now seen.now) }
+fn others_told(s: &[u8], m: &Known, ends: &[u16]) -> Option<Fault>
+    ensures { Ends s.now ends.now → result ≡ least (other_faults_in s.now m.now.seen) }
 {
-    let nodes = fields::field_told(s, fields::field_at(seen, fields::NODES), Kind::Object, ends);
-    let name = fields::field_told(s, fields::field_at(seen, fields::NAME), Kind::Text, ends);
-    let kind = fields::field_told(s, fields::field_at(seen, fields::TYPE), Kind::Text, ends);
-    let children = fields::field_told(s, fields::field_at(seen, fields::CHILDREN), Kind::Ids, ends);
-    let extensions = fields::field_told(
-        s,
-        fields::field_at(seen, fields::EXTENSIONS),
-        Kind::Texts,
-        ends,
-    );
+    let nodes = fields::field_told(s, m.get(Field::Nodes), Kind::Object, ends);
+    let name = fields::field_told(s, m.get(Field::Name), Kind::Text, ends);
+    let kind = fields::field_told(s, m.get(Field::Type), Kind::Text, ends);
+    let children = fields::field_told(s, m.get(Field::Children), Kind::Ids, ends);
+    let extensions = fields::field_told(s, m.get(Field::Extensions), Kind::Texts, ends);
     let arrays = faults::earlier(children, extensions);
     let texts = faults::earlier(name, faults::earlier(kind, arrays));
     faults::earlier(nodes, texts)
 }
 
 // What is told of the bytes of a string at `k`, which should be the ID of another device.
-fn relative_rule(own: &[u8], k: usize, id: &[u8]) -> Told
+fn relative_rule(own: &[u8], k: usize, id: &[u8]) -> Option<Fault>
     ensures { result ≡ least (relative_faults own.now k id.now) }
 {
     if !text::is_id(id) {
-        return Told::At(k, OTHER_RULE);
+        return Some(FaultKind::RuleBroken.at(k));
     }
     if text::same(id, own) {
-        return Told::At(k, OTHER_RULE);
+        return Some(FaultKind::RuleBroken.at(k));
     }
-    Told::Nothing
+    None
 }
 
 // The same of the string itself, which has a backslash.
-fn escaped_relative_told(own: &[u8], s: &[u8], k: usize) -> Told
+fn escaped_relative_told(own: &[u8], s: &[u8], k: usize) -> Option<Fault>
     ensures { result ≡ least (decoded_faults s.now k (relative_faults own.now k)) }
 {
     let mut id = [0u8; 32];
     match fields::decode_at(s, k, &mut id) {
-        Decoding::Half(place) => Told::At(place, OTHER_RULE),
-        Decoding::Whole(n) => {
+        Err(place) => Some(FaultKind::RuleBroken.at(place)),
+        Ok(n) => {
             if n > 32 {
-                return Told::At(k, OTHER_RULE);
+                return Some(FaultKind::RuleBroken.at(k));
             }
             relative_rule(own, k, text::slice(&id, 0, n))
         }
@@ -203,7 +167,7 @@ fn escaped_relative_told(own: &[u8], s: &[u8], k: usize) -> Told
 }
 
 // What is told of the string at `k`, which should be the ID of another device.
-fn relative_told(own: &[u8], s: &[u8], k: usize, ends: &[u16]) -> Told
+fn relative_told(own: &[u8], s: &[u8], k: usize, ends: &[u16]) -> Option<Fault>
     ensures { Ends s.now ends.now → result ≡ least (decoded_faults s.now k (relative_faults own.now k)) }
 {
     if json_text::is_plain_by(s, k, ends) {
@@ -212,37 +176,40 @@ fn relative_told(own: &[u8], s: &[u8], k: usize, ends: &[u16]) -> Told
     escaped_relative_told(own, s, k)
 }
 
-fn root_told(own: &[u8], s: &[u8], f: Field, ends: &[u16]) -> Told
+fn root_told(own: &[u8], s: &[u8], f: Option<usize>, ends: &[u16]) -> Option<Fault>
     ensures { Ends s.now ends.now → result ≡ least (root_faults own.now s.now f) }
 {
-    let Field::First(root) = f else {
-        return Told::Nothing;
+    let Some(root) = f else {
+        return None;
     };
     if !fields::is_string(s, root) {
-        return Told::At(root, WRONG_KIND);
+        return Some(FaultKind::WrongKind.at(root));
     }
     relative_told(own, s, root, ends)
 }
 
 // What is told of the string at `k`, a `parent` without `root`.
-fn rootless_told(s: &[u8], k: usize, ends: &[u16]) -> Told
+fn rootless_told(s: &[u8], k: usize, ends: &[u16]) -> Option<Fault>
     ensures { Ends s.now ends.now → (own : List ℕ) → result ≡ least (decoded_faults s.now k (parent_rule own false k)) }
 {
-    match fields::half_told(s, k, ends) {
-        Told::Nothing => Told::At(k, OTHER_RULE),
-        Told::At(place, number) => Told::At(place, number),
-    }
+    fields::half_told(s, k, ends).or(Some(FaultKind::RuleBroken.at(k)))
 }
 
 // What is told of `parent`, which needs `root`.
-fn parent_told(own: &[u8], s: &[u8], root: Field, f: Field, ends: &[u16]) -> Told
+fn parent_told(
+    own: &[u8],
+    s: &[u8],
+    root: Option<usize>,
+    f: Option<usize>,
+    ends: &[u16],
+) -> Option<Fault>
     ensures { Ends s.now ends.now → result ≡ least (parent_faults own.now s.now root f) }
 {
-    let Field::First(parent) = f else {
-        return Told::Nothing;
+    let Some(parent) = f else {
+        return None;
     };
     if !fields::is_string(s, parent) {
-        return Told::At(parent, WRONG_KIND);
+        return Some(FaultKind::WrongKind.at(parent));
     }
     if !fields::is_present(root) {
         return rootless_told(s, parent, ends);
@@ -251,11 +218,11 @@ fn parent_told(own: &[u8], s: &[u8], root: Field, f: Field, ends: &[u16]) -> Tol
 }
 
 // What is told of root and parent.
-fn relatives_told(own: &[u8], s: &[u8], seen: &[usize; 16], ends: &[u16]) -> Told
-    ensures { Ends s.now ends.now → result ≡ least (relatives_in own.now s.now seen.now) }
+fn relatives_told(own: &[u8], s: &[u8], m: &Known, ends: &[u16]) -> Option<Fault>
+    ensures { Ends s.now ends.now → result ≡ least (relatives_in own.now s.now m.now.seen) }
 {
-    let root = fields::field_at(seen, fields::ROOT);
-    let parent = fields::field_at(seen, fields::PARENT);
+    let root = m.get(Field::Root);
+    let parent = m.get(Field::Parent);
     faults::earlier(
         root_told(own, s, root, ends),
         parent_told(own, s, root, parent, ends),
@@ -263,14 +230,14 @@ fn relatives_told(own: &[u8], s: &[u8], seen: &[usize; 16], ends: &[u16]) -> Tol
 }
 
 // A description of which this is told.
-fn refused(told: Told) -> Description
+fn refused(told: Option<Fault>) -> Description
     ensures { result.told ≡ told }
 {
     Description {
-        told: told,
+        told,
         version: 0,
-        root: Field::Absent,
-        parent: Field::Absent,
+        root: None,
+        parent: None,
         properties: properties::empty(),
     }
 }
@@ -279,22 +246,21 @@ fn refused(told: Told) -> Description
 fn device_by(own: &[u8], s: &[u8], at: usize, m: Known, ends: &[u16]) -> Description
     ensures { Ends s.now ends.now → Knows owner.Device s.now at m → Tells (device_field_faults own.now s.now at) s.now at result }
 {
-    let seen = m.seen;
     let names = m.told;
-    let homie = homie_told(s, at, fields::field_at(&seen, fields::HOMIE), ends);
-    let v = version_of(s, at, fields::field_at(&seen, fields::VERSION), ends);
+    let homie = homie_told(s, at, m.get(Field::Homie), ends);
+    let v = version_of(s, at, m.get(Field::Version), ends);
     let dated = v.told;
-    let a = nodes::nodes_in(s, fields::field_at(&seen, fields::NODES), ends);
+    let a = nodes::nodes_in(s, m.get(Field::Nodes), ends);
     let listed = a.told;
     let list = a.list;
-    let related = faults::earlier(relatives_told(own, s, &seen, ends), listed);
-    let others = faults::earlier(others_told(s, &seen, ends), related);
+    let related = faults::earlier(relatives_told(own, s, &m, ends), listed);
+    let others = faults::earlier(others_told(s, &m, ends), related);
     let required = faults::earlier(homie, faults::earlier(dated, others));
     Description {
         told: faults::earlier(names, required),
         version: v.value,
-        root: fields::field_at(&seen, fields::ROOT),
-        parent: fields::field_at(&seen, fields::PARENT),
+        root: m.get(Field::Root),
+        parent: m.get(Field::Parent),
         properties: list,
     }
 }
@@ -304,7 +270,7 @@ fn device_at(own: &[u8], s: &[u8], at: usize, ends: &[u16]) -> Description
     ensures { Ends s.now ends.now → Tells (device_faults own.now s.now at) s.now at result }
 {
     if !fields::is_object(s, at) {
-        return refused(Told::At(at, WRONG_KIND));
+        return refused(Some(FaultKind::WrongKind.at(at)));
     }
     device_by(
         own,
@@ -317,9 +283,9 @@ fn device_at(own: &[u8], s: &[u8], at: usize, ends: &[u16]) -> Description
 
 // A text that is no JSON of at most 8,192 bytes and 16 levels.
 fn not_json(s: &[u8]) -> Description
-    ensures { result.told ≡ At (fault_place s.now) 21 }
+    ensures { result.told ≡ Some (not_json (fault_place s.now)) }
 {
-    refused(Told::At(json_fault::place(s), NOT_JSON))
+    refused(Some(FaultKind::NotJson.at(json_fault::place(s))))
 }
 
 // What a text of at most 8,192 bytes, in UTF-8, declares. The table is lent.
@@ -327,8 +293,8 @@ fn describe_by(own: &[u8], s: &[u8], ends: &mut [u16]) -> Description
     ensures { length s.now ≤ 8192 → is_utf8 s.now ≡ true → meaning s.now result ≡ describe own.now s.now }
 {
     match json_text::mark(s, ends) {
-        Scan::Bad(_) => not_json(s),
-        Scan::End(_) => device_at(own, s, json_text::skip(s, 0), ends),
+        Err(_) => not_json(s),
+        Ok(_) => device_at(own, s, json_text::skip(s, 0), ends),
     }
 }
 
@@ -351,10 +317,8 @@ pub fn describe(own: &[u8], s: &[u8]) -> Description
 }
 
 // What is told of the description `s` of the device `own`.
-pub fn judge(own: &[u8], s: &[u8]) -> Told
+pub fn judge(own: &[u8], s: &[u8]) -> Option<Fault>
     ensures { result ≡ told own.now s.now }
 {
-    let d = describe(own, s);
-    let t = d.told;
-    t
+    describe(own, s).told
 }

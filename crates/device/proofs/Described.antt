@@ -1,11 +1,11 @@
 -- What a room's description is, where there is one.
+use Rattle.std.specs.Prelude.{None, Some, Option}
 use Prim.Native.Nat.{ℕ, zero, suc, ◌^◌, ◌≤◌, ◌<◌, min}
 use native.Mathlib.Nat.{not-suc-le-zero, le_of_suc-le-suc}
 use native.Mathlib.Omega.{arith}
 use mathlib.Core.Path.{◌≡◌, refl, sym, ap, ◌∙◌}
 use mathlib.Core.List.{List, []}
 use mathlib.Core.Bool.{true, false}
-use mathlib.Core.Option.{none, some}
 use lib.ListN.{length, get_or}
 use Rattle.numbers.specs.Whole.{stands}
 use Rattle.little_endian.specs.Bytes.{u64}
@@ -14,9 +14,6 @@ use Rattle.text.specs.declared.Place.{Place}
 use Rattle.memory.specs.Bytes.{tab}
 use Rattle.memory.proofs.Lists.{length-tab}
 use Rattle.rules.specs.Table as table
-use Rattle.device.specs.declared.Text.{Text}
-use Rattle.device.specs.declared.Text.TheVariants as text
-use Rattle.device.specs.declared.Version.TheVariants as version
 use Rattle.text.specs.Ids.{id_most}
 use Rattle.device.specs.Layout.{described_at, root_at, parent_at, version_at, count_at, properties_most, record_at}
 use Rattle.device.specs.Decode.{is_set, text_at, optional_at, record_of, count_in, properties_in, description_in, device_of}
@@ -24,7 +21,7 @@ use Rattle.device.specs.Meaning.{TextIn, OptionalIn, text_in, version_is}
 use Rattle.device.specs.Parts.{described_text}
 
 module _ (r : List ℕ) (e : is_set r described_at ≡ true) where
-  description_is : description_in r ≡ some (record { root = optional_at r root_at id_most; parent = optional_at r parent_at id_most; version = stands (2 ^ 63) (u64 r version_at); properties = properties_in r })
+  description_is : description_in r ≡ Some (record { root = optional_at r root_at id_most; parent = optional_at r parent_at id_most; version = stands (2 ^ 63) (u64 r version_at); properties = properties_in r })
   unfolding description_in
   description_is = rw (e, description_in)
 
@@ -33,11 +30,11 @@ module _ (r : List ℕ) (e : is_set r described_at ≡ true) where
   text_is at = rw (e, described_text)
 
 module _ (r : List ℕ) (e : is_set r described_at ≡ false) where
-  no-description : description_in r ≡ none
+  no-description : description_in r ≡ None
   unfolding description_in
   no-description = rw (e, description_in)
 
-  no_text : (at : ℕ) → described_text r at ≡ none
+  no_text : (at : ℕ) → described_text r at ≡ None
   unfolding described_text
   no_text at = rw (e, described_text)
 
@@ -49,33 +46,33 @@ parent_is : (r : List ℕ) → described_text r parent_at ≡ table.parent_of (d
 unfolding device_of table.parent_of
 parent_is r = both (is_set r described_at) (λ e. text_is r e parent_at ∙ sym (ap table.parent_of (description_is r e))) (λ e. no_text r e parent_at ∙ sym (ap table.parent_of (no-description r e)))
 
-pub root-shown : (r : List ℕ) {x : Text} → OptionalIn r (described_text r root_at) x → OptionalIn r (table.root_of (device_of r).description) x
+pub root-shown : (r : List ℕ) {x : Option Place} → OptionalIn r (described_text r root_at) x → OptionalIn r (table.root_of (device_of r).description) x
 root-shown r h = record { says = h.says ∙ root_is r; within = h.within }
 
-pub parent-shown : (r : List ℕ) {x : Text} → OptionalIn r (described_text r parent_at) x → OptionalIn r (table.parent_of (device_of r).description) x
+pub parent-shown : (r : List ℕ) {x : Option Place} → OptionalIn r (described_text r parent_at) x → OptionalIn r (table.parent_of (device_of r).description) x
 parent-shown r h = record { says = h.says ∙ parent_is r; within = h.within }
 
 -- the answers of `described_text`
 module _ (r : List ℕ) (at : ℕ) where
-  pub not_described : is_set r described_at ≡ false → OptionalIn r (described_text r at) text.Nothing
+  pub not_described : is_set r described_at ≡ false → OptionalIn r (described_text r at) None
   unfolding text_in
   not_described e = record { says = sym (no_text r e at); within = tt }
 
-  pub not_there : is_set r described_at ≡ true → is_set r at ≡ false → OptionalIn r (described_text r at) text.Nothing
+  pub not_there : is_set r described_at ≡ true → is_set r at ≡ false → OptionalIn r (described_text r at) None
   unfolding optional_at text_in
   not_there d e = record { says = sym (text_is r d at ∙ rw (e, optional_at)); within = tt }
 
-  pub there : {p : Place} → is_set r described_at ≡ true → is_set r at ≡ true → TextIn r (text_at r at id_most) p → OptionalIn r (described_text r at) (text.At p)
+  pub there : {p : Place} → is_set r described_at ≡ true → is_set r at ≡ true → TextIn r (text_at r at id_most) p → OptionalIn r (described_text r at) (Some p)
   unfolding optional_at text_in
-  there d e t = record { says = ap some t.says ∙ sym (text_is r d at ∙ rw (e, optional_at)); within = t.within }
+  there d e t = record { says = ap Some t.says ∙ sym (text_is r d at ∙ rw (e, optional_at)); within = t.within }
 
-pub no-version : (r : List ℕ) → is_set r described_at ≡ false → version_is version.Nothing ≡ table.version_of (device_of r).description
+pub no-version : (r : List ℕ) → is_set r described_at ≡ false → version_is None ≡ table.version_of (device_of r).description
 unfolding version_is device_of table.version_of
 no-version r e = sym (ap table.version_of (no-description r e))
 
-pub version_is_lem : (r : List ℕ) (n : ℕ) → is_set r described_at ≡ true → n ≡ u64 r version_at → version_is (version.Is n) ≡ table.version_of (device_of r).description
+pub version_is_lem : (r : List ℕ) (n : ℕ) → is_set r described_at ≡ true → n ≡ u64 r version_at → version_is (Some n) ≡ table.version_of (device_of r).description
 unfolding version_is device_of table.version_of
-version_is_lem r n d e = ap (λ (k : ℕ). version_is (version.Is k)) e ∙ sym (ap table.version_of (description_is r d))
+version_is_lem r n d e = ap (λ (k : ℕ). version_is (Some k)) e ∙ sym (ap table.version_of (description_is r d))
 
 -- its properties
 abbrev pub all : List ℕ → List table.Property

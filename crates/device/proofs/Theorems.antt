@@ -1,8 +1,8 @@
 -- What this crate promises beyond its contracts.
+use Rattle.std.specs.Prelude.{None}
 use Prim.Native.Nat.{ℕ, ◌+◌, ◌≤◌, ◌<◌}
 use mathlib.Core.Path.{◌≡◌, refl}
 use mathlib.Core.List.{List, [], ◌∷◌}
-use mathlib.Core.Option.{none}
 use lib.ListN.{length, get_or}
 use Rattle.text.specs.Ascii.{ascii}
 use Rattle.little_endian.specs.Bytes.{le, num}
@@ -38,10 +38,10 @@ pub text_in-memory : (m : List ℕ) (a n : ℕ) (p : Place) → a + n ≤ length
 text_in-memory = texts.text_in-memory
 
 -- a room of five bytes, and one of none
-pub lamp : device_of (4 ∷ ascii "lamp") ≡ record { id = ascii "lamp"; state = Init; time = 0; description = none }
+pub lamp : device_of (4 ∷ ascii "lamp") ≡ record { id = ascii "lamp"; state = Init; time = 0; description = None }
 unfolding device_of text_at span state_at description_in is_set num le
 lamp = refl
 
-pub empty : device_of [] ≡ record { id = []; state = Init; time = 0; description = none }
+pub empty : device_of [] ≡ record { id = []; state = Init; time = 0; description = None }
 unfolding device_of text_at span state_at description_in is_set num le
 empty = refl

@@ -1,6 +1,5 @@
 -- What the bytes of a device's room mean. Any bytes mean a device: a length above its limit reads as the limit, a number past the last as the last.
-use Rattle.std.specs.Prelude.{ℕ, ◌+◌, ◌^◌, min, List, Bool, true, false, not, get_or, eqb}
-use Rattle.std.proofs.Math.Option.{Option, none, some}
+use Rattle.std.specs.Prelude.{ℕ, ◌+◌, ◌^◌, min, List, Bool, true, false, not, get_or, eqb, Option, None, Some}
 use Rattle.little_endian.specs.Bytes.{u64}
 use Rattle.numbers.specs.Whole.{stands}
 use Rattle.memory.specs.Bytes.{span, tab}
@@ -21,11 +20,11 @@ text_at r at most = span r (at + 1) (min (get_or r at 0) most)
 
 -- a byte string that may be missing: then its length is 0
 unfoldable pub optional_at : List ℕ → (at most : ℕ) → Option (List ℕ)
-optional_at r at most = elim (is_set r at) [ true ↦ some (text_at r at most) | false ↦ none ]
+optional_at r at most = elim (is_set r at) [ true ↦ Some (text_at r at most) | false ↦ None ]
 
 -- the lane that starts at a place
 unfoldable pub held_at : List ℕ → ℕ → Option Held
-held_at r a = elim (is_set r (a + payload_at)) [ true ↦ some (record { time = u64 r a; payload = text_at r (a + payload_at) payload_most }) | false ↦ none ]
+held_at r a = elim (is_set r (a + payload_at)) [ true ↦ Some (record { time = u64 r a; payload = text_at r (a + payload_at) payload_most }) | false ↦ None ]
 
 -- what the record that starts at a place declares
 unfoldable pub declared_at : List ℕ → ℕ → declaration.Property
@@ -55,8 +54,8 @@ properties_in r = tab (count_in r) (λ i. record_of r (record_at i))
 
 unfoldable pub description_in : List ℕ → Option Description
 description_in r = elim (is_set r described_at) [
-  | true ↦ some (record { root = optional_at r root_at id_most; parent = optional_at r parent_at id_most; version = stands (2 ^ 63) (u64 r version_at); properties = properties_in r })
-  | false ↦ none
+  | true ↦ Some (record { root = optional_at r root_at id_most; parent = optional_at r parent_at id_most; version = stands (2 ^ 63) (u64 r version_at); properties = properties_in r })
+  | false ↦ None
 ]
 
 unfoldable pub device_of : List ℕ → Device

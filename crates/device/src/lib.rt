@@ -1,6 +1,8 @@
 // The room of one device: what its bytes mean. A room may have any length and hold any bytes; past its end every byte reads as 0.
 #![tactic(auto)]
 
+// Kept by hand: `text_at`, `lane_at`, `lanes_at`, `record_at` and `property_at` read at a place of a room; a conversion has no place beside the bytes.
+
 ghost use Rattle.std.specs.Prelude.{◌≡◌, cond, ◌+◌, ◌^◌, ◌≤◌, ◌<◌, min, length};
 ghost use Rattle.text.specs.Bytes.{eq_bytes};
 ghost use Rattle.rules.specs.Table.{root_of, parent_of, version_of, properties_of};
@@ -8,9 +10,9 @@ ghost use Rattle.rules.specs.Find.{is_named, first_at};
 ghost use Rattle.rules.specs.Questions.{filled_in};
 ghost use Rattle.text.specs.Ids.{id_most};
 ghost use Rattle.device.specs.Layout.{properties_most, record_size, record_at, format_most, lane_size};
-ghost use Rattle.device.specs.Decode.{is_set, text_at, record_of, device_of};
-ghost use Rattle.device.specs.Meaning.{TextIn, OptionalIn, version_is, PropertyIn, lane_number, chosen};
-ghost use Rattle.device.specs.Parts.{described_text, LaneAt, LanesAt, ValueWord};
+ghost use Rattle.device.specs.Decode.{is_set, text_at, held_at, record_of, device_of};
+ghost use Rattle.device.specs.Meaning.{TextIn, OptionalIn, version_is, LaneIn, PropertyIn, lane_number, chosen};
+ghost use Rattle.device.specs.Parts.{described_text, LanesAt, ValueWord};
 
 use payload::Datatype;
 use rules::{DeviceState, LaneKind};
@@ -61,44 +63,29 @@ pub const PAYLOAD: usize = 8;
 
 pub const PAYLOAD_MOST: usize = payload::PAYLOAD_MOST;
 
-// A byte string that may be missing, as a place in the room.
-#[derive(Clone, Copy)]
-pub enum Text {
-    Nothing,
-    At { place: Place },
-}
-
-// A version's number plus 2^63.
-#[derive(Clone, Copy)]
-pub enum Version {
-    Nothing,
-    Is(u64),
-}
-
-// A lane; where it is not filled, its time and payload say nothing.
+// What a filled lane holds.
 #[derive(Clone, Copy)]
 pub struct Lane {
-    pub filled: bool,
     pub time: u64,
     pub payload: Place,
 }
 
-// A property: its byte strings are places in the room. The lanes are value, target, asked.
+// What is declared of a property: its byte strings are places.
 #[derive(Clone, Copy)]
-pub struct Property {
+pub struct Declared {
     pub node: Place,
     pub id: Place,
     pub datatype: Datatype,
     pub settable: bool,
     pub retained: bool,
     pub format: Place,
-    pub lanes: [Lane; 3],
 }
 
-fn least(a: usize, b: usize) -> usize
-    ensures { result ≡ min a b }
-{
-    if a < b { a } else { b }
+// A property of a room, and its lanes: value, target, asked.
+#[derive(Clone, Copy)]
+pub struct Property {
+    pub declared: Declared,
+    pub lanes: [Option<Lane>; 3],
 }
 
 fn is_set(room: &[u8], at: usize) -> bool
@@ -112,12 +99,10 @@ fn clipped_text(room: &[u8], at: usize, most: usize) -> Place
     requires { (at < 2 ^ 20) × (most ≤ format_most) }
     ensures { TextIn room.now (text_at room.now at most) result }
 {
-    let n = least(memory::byte(room, at) as usize, most);
-    let start = least(at + 1, room.len());
-    let end = least(at + 1 + n, room.len());
+    let n = usize::from(memory::byte(room, at)).min(most);
     Place {
-        start: start,
-        end: end,
+        start: (at + 1).min(room.len()),
+        end: (at + 1 + n).min(room.len()),
     }
 }
 
@@ -129,7 +114,7 @@ fn text_at(room: &[u8], at: usize, most: usize) -> Place
     if room.len() <= at + most {
         return clipped_text(room, at, most);
     }
-    let n = least(room[at] as usize, most);
+    let n = usize::from(room[at]).min(most);
     Place {
         start: at + 1,
         end: at + 1 + n,
@@ -158,42 +143,39 @@ pub fn time(room: &[u8]) -> u64
 }
 
 // A byte string of the description that may be missing.
-fn described_text(room: &[u8], at: usize) -> Text
+fn described_text(room: &[u8], at: usize) -> Option<Place>
     requires { at < 2 ^ 20 }
     ensures { OptionalIn room.now (described_text room.now at) result }
 {
-    if !is_set(room, DESCRIBED) {
-        return Text::Nothing;
+    if !is_set(room, DESCRIBED) || !is_set(room, at) {
+        return None;
     }
-    if !is_set(room, at) {
-        return Text::Nothing;
-    }
-    let place = text_at(room, at, text::Id::MAX);
-    Text::At { place: place }
+    Some(text_at(room, at, text::Id::MAX))
 }
 
 // The root that the description names.
-pub fn root(room: &[u8]) -> Text
+pub fn root(room: &[u8]) -> Option<Place>
     ensures { OptionalIn room.now (root_of (device_of room.now).description) result }
 {
     described_text(room, ROOT)
 }
 
 // The parent that the description names.
-pub fn parent(room: &[u8]) -> Text
+pub fn parent(room: &[u8]) -> Option<Place>
     ensures { OptionalIn room.now (parent_of (device_of room.now).description) result }
 {
     described_text(room, PARENT)
 }
 
-// The description's version.
-pub fn version_of(room: &[u8]) -> Version
+// The number of the description's version, plus 2^63.
+pub fn version_of(room: &[u8]) -> Option<u64>
     ensures { version_is result ≡ version_of (device_of room.now).description }
 {
-    if !is_set(room, DESCRIBED) {
-        return Version::Nothing;
+    if is_set(room, DESCRIBED) {
+        Some(little_endian::get(room, VERSION, 8))
+    } else {
+        None
     }
-    Version::Is(little_endian::get(room, VERSION, 8))
 }
 
 // How many properties the device has.
@@ -203,50 +185,39 @@ pub fn properties(room: &[u8]) -> u8
     if !is_set(room, DESCRIBED) {
         return 0;
     }
-    let n = memory::byte(room, COUNT);
-    if n < PROPERTIES_MOST {
-        n
-    } else {
-        PROPERTIES_MOST
-    }
+    memory::byte(room, COUNT).min(PROPERTIES_MOST)
 }
 
 // The number of a lane.
+#[tactic(auto, unfolding(crate::specs::Meaning::lane_number))]
 pub fn lane_number(kind: LaneKind) -> usize
     ensures { (result ≡ lane_number kind) × (result < 3) }
 {
-    match kind {
-        LaneKind::Value => 0,
-        LaneKind::Target => 1,
-        LaneKind::Asked => 2,
-    }
+    kind as usize
 }
 
 // One lane of a property.
-pub fn lane_of(p: Property, kind: LaneKind) -> Lane
+pub fn lane_of(p: Property, kind: LaneKind) -> Option<Lane>
     ensures { result ≡ chosen kind p }
 {
-    let k = lane_number(kind);
-    p.lanes[k]
+    p.lanes[lane_number(kind)]
 }
 
 // The lane that starts at a place.
-fn lane_at(room: &[u8], a: usize) -> Lane
+fn lane_at(room: &[u8], a: usize) -> Option<Lane>
     requires { a + lane_size < 2 ^ 20 }
-    ensures { LaneAt room.now a result }
+    ensures { LaneIn room.now (held_at room.now a) result }
 {
-    let filled = is_set(room, a + PAYLOAD);
+    if !is_set(room, a + PAYLOAD) {
+        return None;
+    }
     let time = little_endian::get(room, a, 8);
     let payload = text_at(room, a + PAYLOAD, PAYLOAD_MOST);
-    Lane {
-        filled: filled,
-        time: time,
-        payload: payload,
-    }
+    Some(Lane { time, payload })
 }
 
 // The lanes of the record at a place.
-fn lanes_at(room: &[u8], a: usize) -> [Lane; 3]
+fn lanes_at(room: &[u8], a: usize) -> [Option<Lane>; 3]
     requires { a + record_size < 2 ^ 20 }
     ensures { LanesAt room.now a result }
 {
@@ -276,13 +247,15 @@ pub fn property_at(room: &[u8], i: u8) -> Property
     let format = text_at(room, a + FORMAT, FORMAT_MOST);
     let lanes = lanes_at(room, a);
     Property {
-        node: node,
-        id: id,
-        datatype: datatype,
-        settable: settable,
-        retained: retained,
-        format: format,
-        lanes: lanes,
+        declared: Declared {
+            node,
+            id,
+            datatype,
+            settable,
+            retained,
+            format,
+        },
+        lanes,
     }
 }
 
@@ -292,9 +265,7 @@ fn id_is(room: &[u8], at: usize, id: &[u8]) -> bool
     ensures { result ≡ eq_bytes (text_at room.now at id_most) id.now }
 {
     let p = text_at(room, at, text::Id::MAX);
-    let start = p.start;
-    let end = p.end;
-    text::same(&room[start..end], id)
+    text::same(&room[p.start..p.end], id)
 }
 
 // Whether the property of number i has these two IDs; of many with one node the second tells sooner.
@@ -302,10 +273,7 @@ fn is_named(room: &[u8], i: u8, node: &[u8], id: &[u8]) -> bool
     ensures { result ≡ is_named node.now id.now (record_of room.now (record_at i)) }
 {
     let a = record_at(i);
-    if !id_is(room, a + PROPERTY, id) {
-        return false;
-    }
-    id_is(room, a + NODE, node)
+    id_is(room, a + PROPERTY, id) && id_is(room, a + NODE, node)
 }
 
 // The number of the first property with these two IDs; where there is none, the number of properties.
@@ -313,12 +281,10 @@ pub fn find_property(room: &[u8], node: &[u8], id: &[u8]) -> u8
     ensures { result ≡ first_at (is_named node.now id.now) (properties_of (device_of room.now).description) }
 {
     let n = properties(room);
-    let mut i: u8 = 0;
-    while i < n {
+    for i in 0..n {
         if is_named(room, i, node, id) {
             return i;
         }
-        i += 1;
     }
     n
 }
@@ -328,10 +294,7 @@ fn with_bit(w: u32, i: u8, set: bool) -> u32
     requires { (i < properties_most) × (w < 2 ^ i) }
     ensures { result ≡ cond set (2 ^ i) 0 + w }
 {
-    if !set {
-        return w;
-    }
-    w | (1 << i as u32)
+    if set { w | (1 << i) } else { w }
 }
 
 // A word with one bit per property, set where its value lane is filled.
@@ -340,10 +303,8 @@ fn value_word(room: &[u8]) -> u32
 {
     let n = properties(room);
     let mut w: u32 = 0;
-    let mut i: u8 = 0;
-    while i < n {
+    for i in 0..n {
         w = with_bit(w, i, is_set(room, record_at(i) + (LANES + PAYLOAD)));
-        i += 1;
     }
     w
 }

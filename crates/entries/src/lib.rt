@@ -1,92 +1,51 @@
 // Comma lists: the entries of a format.
 #![tactic(auto)]
 
-ghost use Rattle.std.specs.Prelude.{◌≡◌, ◌≤◌, length};
+ghost use Rattle.std.specs.Prelude.{◌≡◌, length};
 ghost use Rattle.entries.specs.Entries.{entries_of, is_in, is_list, all_in};
-ghost use Rattle.entries.specs.Parts.{EndsAt};
-
-use text::Part;
-
-// Where the entry that starts at `at` ends: at the next comma or at the end.
-fn entry_end(s: &[u8], at: usize) -> usize
-    requires { at ≤ length s.now }
-    ensures { EndsAt s.now at result }
-{
-    match text::next_part(s, at, b',') {
-        Part::Found {
-            start: _,
-            end,
-            next: _,
-        } => end,
-        Part::Nothing => s.len(),
-    }
-}
-
-// No entry is empty and none is there twice.
-pub fn is_list(s: &[u8]) -> bool
-    ensures { result ≡ is_list s.now }
-{
-    let mut ok = true;
-    let mut i = 0;
-    'entries: while i <= s.len() {
-        let e = entry_end(s, i);
-        if e == i {
-            ok = false;
-            break 'entries;
-        }
-        let mut j = e + 1;
-        while j <= s.len() {
-            let f = entry_end(s, j);
-            if text::same(&s[i..e], &s[j..f]) {
-                ok = false;
-                break 'entries;
-            }
-            j = f + 1;
-        }
-        i = e + 1;
-    }
-    ok
-}
 
 // `entry` is one of the entries, exactly.
 pub fn has(s: &[u8], entry: &[u8]) -> bool
     ensures { result ≡ is_in entry.now (entries_of s.now) }
 {
+    s.split(|b| *b == b',').any(|e| text::same(entry, e))
+}
+
+// No entry is empty and none is there twice.
+// Kept by hand: the paper names the form of this place, nested loops that are left by a label at the first repeated pair.
+pub fn is_list(s: &[u8]) -> bool
+    ensures { result ≡ is_list s.now }
+{
+    let mut ok = true;
     let mut i = 0;
-    while i <= s.len() {
-        let e = entry_end(s, i);
-        if text::same(entry, &s[i..e]) {
-            return true;
+    'entries: while let Some(entry) = text::next_part(s, i, b',') {
+        if entry.start == entry.end {
+            ok = false;
+            break 'entries;
         }
-        i = e + 1;
+        let mut j = entry.next;
+        while let Some(other) = text::next_part(s, j, b',') {
+            if text::same(&s[entry.start..entry.end], &s[other.start..other.end]) {
+                ok = false;
+                break 'entries;
+            }
+            j = other.next;
+        }
+        i = entry.next;
     }
-    false
+    ok
 }
 
 // Each entry of `s` is one of the entries of `of`.
 pub fn all_in(s: &[u8], of: &[u8]) -> bool
     ensures { result ≡ all_in (entries_of s.now) (entries_of of.now) }
 {
-    let mut i = 0;
-    while i <= s.len() {
-        let e = entry_end(s, i);
-        if !has(of, &s[i..e]) {
-            return false;
-        }
-        i = e + 1;
-    }
-    true
+    s.split(|b| *b == b',').all(|entry| has(of, entry))
 }
 
 // How many entries there are.
 pub fn count(s: &[u8]) -> usize
     ensures { result ≡ length (entries_of s.now) }
 {
-    let mut n = 0;
-    let mut i = 0;
-    while i <= s.len() {
-        i = entry_end(s, i) + 1;
-        n += 1;
-    }
-    n
+    s.split(|b| *b == b',').count()
 }

@@ -1,21 +1,23 @@
 -- Laws of the copies into a buffer.
+use Rattle.std.specs.Prelude.{None, Option, Some, Err, Ok}
 use Prim.Native.Nat.{ℕ, suc, ◌+◌, ◌≤◌, ◌<◌}
 use native.Mathlib.Numerals.{add-one}
 use native.Mathlib.Omega.{arith}
 use mathlib.Core.Path.{◌≡◌, refl, sym, ap, ◌∙◌}
+use Rattle.std.proofs.lemmas.List.{set-get_or}
 use mathlib.Core.List.{List, [], ◌∷◌, ◌++◌}
+use mathlib.Core.Logic.{◌⊎◌, inl, inr}
 use mathlib.Core.Bool.{Bool, true}
 use lib.ListN.{length, take, drop, get_or, set, length-drop, length-append, drop_of_length-le}
 use lib.Seq.{drop-cons, take-length, take-suc, set_at, append_snoc, length-take-le}
 use borrow.Author.Tests.{le-leb, lt-leb}
 use Rattle.json_text.proofs.Bytes.{split}
-use Rattle.escapes.specs.declared.HalfPair.{HalfPair}
-use Rattle.escapes.specs.declared.HalfPair.TheVariants.{At, Nothing}
-use Rattle.escapes.specs.declared.Decoding.TheVariants.{Whole, Half}
 use Rattle.json_text.specs.Strings.{is_plain}
 use Rattle.escapes.specs.Decode.{Decoded, whole, half, decode, bytes_of, written, half_of, decoding_of, filled, Decodes}
-use Rattle.escapes.specs.Parts.{Copied}
-use Rattle.escapes.proofs.Walk.{no-half, some-half, whole_of, front, tail, Place, Stepped, start-place, start-tail}
+use Rattle.escapes.specs.Parts.{step_at, Copied}
+use Rattle.escapes.specs.declared.Step.{Step}
+use Rattle.escapes.specs.declared.Step.TheVariants.{Stop, Over}
+use Rattle.escapes.proofs.Walk.{no-half, some-half, whole_of, front, tail, Place, Stepped, stopped, over, start-place, start-tail}
 use Rattle.escapes.proofs.Loops.{decode-itself, plain-written}
 
 -- ---- the first j of t are laid on d
@@ -38,24 +40,6 @@ module _ (d t : List ℕ) where
         ∙ ap (λ (r : List ℕ). r ++ drop (suc j) d) (sym (take-suc t j 0 h))
         ∙ ap (λ (k : ℕ). take k t ++ drop k d) (sym (add-one j))
 
--- a plain copy has come to j
-pub record Laying (t d out : List ℕ) (j : ℕ) : Type 0 where
-  pub to : j ≤ length t
-  pub is : out ≡ laid d t j
-
-pub laying : (t d : List ℕ) → Laying t d d 0
-laying t d = record { to = omega arith; is = refl }
-
-module _ {t d out : List ℕ} {j : ℕ} (v : Laying t d out j) (fits : length t ≤ length d) where
-  pub laying-length : length out ≡ length d
-  laying-length = ap length v.is ∙ laid-length d t j v.to (omega (arith, v.to))
-
-  pub laying-more : j < length t → Laying t d (set out j (get_or t j 0)) (j + 1)
-  laying-more h = record { to = omega arith; is = ap (λ (l : List ℕ). set l j (get_or t j 0)) v.is ∙ laid_more d t j h (omega arith) }
-
-  pub laying-done : length t ≤ j → out ≡ t ++ drop (length t) d
-  laying-done h = v.is ∙ (let e : j ≡ length t = omega (arith, v.to) in ap (laid d t) e) ∙ laid-all d t
-
 -- ---- what s writes
 
 pub record Filling (s d out : List ℕ) (i o j : ℕ) : Type 0 where
@@ -64,7 +48,7 @@ pub record Filling (s d out : List ℕ) (i o j : ℕ) : Type 0 where
   pub left : tail s i o ≡ whole (drop j (written s))
   pub is : out ≡ laid d (written s) j
 
-pub filling : (s d : List ℕ) → half_of (decode s) ≡ Nothing → Filling s d d 0 0 0
+pub filling : (s d : List ℕ) → half_of (decode s) ≡ None → Filling s d d 0 0 0
 unfolding written
 filling s d h = record { place = start-place s; to = omega arith; left = start-tail s ∙ whole_of (decode s) h; is = refl }
 
@@ -88,13 +72,13 @@ front_of w j b (whole t) e = split (length w) j
 front_of w j b (half p) e = absurd (let z : ◌≡◌ {A = ℕ} 0 1 = cc in omega arith)
 
 module _ {s d out : List ℕ} {i o j : ℕ} (v : Filling s d out i o j) (fits : length (written s) ≤ length d) where
-  pub filling-length : length out ≡ length d
+  filling-length : length out ≡ length d
   filling-length = ap length v.is ∙ laid-length d (written s) j v.to (omega (arith, v.to))
 
-  pub filling-stop {ℓ} : {X : Type ℓ} → tail s i o ≡ half 0 → X
+  filling-stop {ℓ} : {X : Type ℓ} → tail s i o ≡ half 0 → X
   filling-stop e = absurd (let q = v.left in let z : ◌≡◌ {A = ℕ} 0 1 = cc in omega arith)
 
-  pub filling-over : tail s i o ≡ whole [] → out ≡ written s ++ drop (length (written s)) d
+  filling-over : tail s i o ≡ whole [] → out ≡ written s ++ drop (length (written s)) d
   filling-over e =
       let q : drop j (written s) ≡ [] = let p = v.left in cc in
       let l = ap length q in
@@ -102,12 +86,14 @@ module _ {s d out : List ℕ} {i o j : ℕ} (v : Filling s d out i o j) (fits : 
       let x : j ≡ length (written s) = omega (arith, v.to) in
       v.is ∙ ap (laid d (written s)) x ∙ laid-all d (written s)
 
+  -- nothing more is written
+  pub filling-ends : {r : Step} → r ≡ step_at s i o → (r ≡ Stop) ⊎ (r ≡ Over) → set out j (get_or out j 0) ≡ written s ++ drop (length (written s)) d
+  filling-ends e (inl f) = filling-stop (stopped s i o v.place e f)
+  filling-ends e (inr f) = set-get_or out j 0 ∙ filling-over (over s i o v.place e f)
+
   module _ {b p q : ℕ} (w : Stepped s i o b p q) where
     ahead : Front (written s) j b (tail s p q)
     ahead = front_of (written s) j b (tail s p q) (sym v.left ∙ w.same)
-
-    pub filling-inside : j < length out
-    filling-inside = let a = ahead.inside in let l = filling-length in omega arith
 
     pub filling-more : Filling s d (set out j b) p q (j + 1)
     filling-more =
@@ -136,19 +122,19 @@ unfolding filled
 filled_none d = rw (le-leb 0 (length d) (omega arith))
 
 module _ (s d : List ℕ) where
-  pub decodes-plain : {t : Bool} {n : ℕ} {out : List ℕ} → t ≡ is_plain s → t ≡ true → Copied s d out n → Decodes s d out (Whole n)
+  pub decodes-plain : {t : Bool} {n : ℕ} {out : List ℕ} → t ≡ is_plain s → t ≡ true → Copied s d out n → Decodes s d out (Ok n)
   unfolding decoding_of
   decodes-plain p q c =
       let e = sym p ∙ q in
-      record { answer = ap Whole c.size ∙ ap decoding_of (sym (decode-itself s e)); buffer = c.buffer ∙ ap (λ (t : List ℕ). filled t d) (sym (plain-written s e)) }
+      record { answer = ap Ok c.size ∙ ap decoding_of (sym (decode-itself s e)); buffer = c.buffer ∙ ap (λ (t : List ℕ). filled t d) (sym (plain-written s e)) }
 
-  module _ {r : HalfPair} (e : r ≡ half_of (decode s)) where
-    pub decodes-half : {p : ℕ} → r ≡ At p → Decodes s d d (Half p)
+  module _ {r : Option ℕ} (e : r ≡ half_of (decode s)) where
+    pub decodes-half : {p : ℕ} → r ≡ Some p → Decodes s d d (Err p)
     unfolding decoding_of written bytes_of
     decodes-half q =
         let h = sym (some-half (decode s) (sym e ∙ q)) in
         record { answer = ap decoding_of h; buffer = sym (filled_none d) ∙ ap (λ (x : Decoded). filled (bytes_of x) d) h }
 
-    pub decodes-whole : {n : ℕ} {out : List ℕ} → r ≡ Nothing → Copied (written s) d out n → Decodes s d out (Whole n)
+    pub decodes-whole : {n : ℕ} {out : List ℕ} → r ≡ None → Copied (written s) d out n → Decodes s d out (Ok n)
     unfolding decoding_of written
-    decodes-whole q c = record { answer = ap Whole c.size ∙ ap decoding_of (sym (no-half (decode s) (sym e ∙ q))); buffer = c.buffer }
+    decodes-whole q c = record { answer = ap Ok c.size ∙ ap decoding_of (sym (no-half (decode s) (sym e ∙ q))); buffer = c.buffer }

@@ -1,4 +1,5 @@
 -- Laws of escapes and of a character's bytes.
+use Rattle.std.specs.Prelude.{Option, None, Some}
 use Prim.Native.Nat.{ℕ, ◌+◌, ◌*◌, ◌-◌, ◌/◌, ◌%◌, ◌≤◌, ◌<◌}
 use native.Mathlib.Omega.{arith}
 use mathlib.Core.Path.{◌≡◌, refl, sym, ap, ◌∙◌, subst}
@@ -13,9 +14,8 @@ use Rattle.text.proofs.Bytes.{both}
 use Rattle.json_text.specs.Bytes.{byte}
 use Rattle.json_text.proofs.Bytes.{split, byte_out, inside=}
 use Rattle.escapes.specs.declared.Escaped.{Escaped}
-use Rattle.escapes.specs.declared.Escaped.TheVariants.{Char, Unpaired}
 use Rattle.escapes.specs.declared.Coded.{Coded}
-use Rattle.escapes.specs.Escapes.{hex_digit, code_unit, is_high, is_low, pair_of, short_of, pair_after, unit_escape, escape_of, utf8}
+use Rattle.escapes.specs.Escapes.{hex_digit, code_unit, is_high, is_low, pair_of, short_of, pair_after, unit_escape, escape_of, utf8, escaped_char}
 use Rattle.escapes.specs.Parts.{coded_of}
 
 -- ---- digits and units
@@ -143,21 +143,21 @@ module _ (c : ℕ) where
 -- ---- escapes
 
 module _ (s : List ℕ) (h : ℕ) where
-  pub pair_6 : (byte s 6 ≡ 0x5C → ⊥) → Unpaired ≡ pair_after s h
+  pub pair_6 : (byte s 6 ≡ 0x5C → ⊥) → None ≡ pair_after s h
   unfolding pair_after
   pair_6 n = rw (ne_eqb (byte s 6) 0x5C n, pair_after)
 
   module _ (e : byte s 6 ≡ 0x5C) where
-    pub pair_7 : (byte s 7 ≡ 0x75 → ⊥) → Unpaired ≡ pair_after s h
+    pub pair_7 : (byte s 7 ≡ 0x75 → ⊥) → None ≡ pair_after s h
     unfolding pair_after
     pair_7 n = rw (eq-eqb (byte s 6) 0x5C e, ne_eqb (byte s 7) 0x75 n, pair_after)
 
     module _ (f : byte s 7 ≡ 0x75) where
-      pub pair-not : is_low (code_unit s 8) ≡ false → Unpaired ≡ pair_after s h
+      pub pair-not : is_low (code_unit s 8) ≡ false → None ≡ pair_after s h
       unfolding pair_after
       pair-not n = rw (eq-eqb (byte s 6) 0x5C e, eq-eqb (byte s 7) 0x75 f, n, pair_after)
 
-      pub pair_is : is_low (code_unit s 8) ≡ true → Char (pair_of h (code_unit s 8)) 11 ≡ pair_after s h
+      pub pair_is : is_low (code_unit s 8) ≡ true → escaped_char (pair_of h (code_unit s 8)) 11 ≡ pair_after s h
       unfolding pair_after
       pair_is n = rw (eq-eqb (byte s 6) 0x5C e, eq-eqb (byte s 7) 0x75 f, n, pair_after)
 
@@ -178,7 +178,7 @@ unfolding is_low
 low_yes u h k = in_range_lem 0xDC00 0xDFFF u h k
 
 module _ (s : List ℕ) where
-  escape-short : (byte s 1 ≡ 0x75 → ⊥) → Char (short_of (byte s 1)) 1 ≡ escape_of s
+  escape-short : (byte s 1 ≡ 0x75 → ⊥) → escaped_char (short_of (byte s 1)) 1 ≡ escape_of s
   unfolding escape_of
   escape-short n = rw (ne_eqb (byte s 1) 0x75 n, escape_of)
 
@@ -192,11 +192,11 @@ module _ (s : List ℕ) where
     unfolding unit_escape
     unit-high q = rw (q, unit_escape)
 
-    pub unit-low : is_high u ≡ false → is_low u ≡ true → Unpaired ≡ unit_escape s u
+    pub unit-low : is_high u ≡ false → is_low u ≡ true → None ≡ unit_escape s u
     unfolding unit_escape
     unit-low q r = rw (q, unit_escape) (rw r)
 
-    pub unit-char : is_high u ≡ false → is_low u ≡ false → Char u 5 ≡ unit_escape s u
+    pub unit-char : is_high u ≡ false → is_low u ≡ false → escaped_char u 5 ≡ unit_escape s u
     unfolding unit_escape
     unit-char q r = rw (q, unit_escape) (rw r)
 
@@ -207,12 +207,12 @@ pub record Writable (s : List ℕ) (c n : ℕ) : Type 0 where
   pub fits : length (utf8 c) ≤ length s
   pub fewer : 2 ≤ length s → (byte s 1 ≡ 0x75 → 4 ≤ length s) → length (utf8 c) < length s
 
-abbrev Good : List ℕ → Escaped → Type 0
-Good s (Char c n) = Writable s c n
-Good s Unpaired = Unit {0}
+abbrev Good : List ℕ → Option Escaped → Type 0
+Good s (Some t) = Writable s t.code t.len
+Good s None = Unit {0}
 
 module _ (s : List ℕ) where
-  good-short : 0 < length s → Good s (Char (short_of (byte s 1)) 1)
+  good-short : 0 < length s → Good s (escaped_char (short_of (byte s 1)) 1)
   good-short p =
       let h = short-small (byte s 1) in
       let l = utf8-ascii (short_of (byte s 1)) h in
@@ -228,7 +228,7 @@ module _ (s : List ℕ) where
       let d = ap hex_digit (byte_out s 5 (omega arith)) ∙ digit-above 256 (omega arith) in
       omega arith
 
-  good-unit : byte s 1 ≡ 0x75 → is_high (code_unit s 2) ≡ false → is_low (code_unit s 2) ≡ false → Good s (Char (code_unit s 2) 5)
+  good-unit : byte s 1 ≡ 0x75 → is_high (code_unit s 2) ≡ false → is_low (code_unit s 2) ≡ false → Good s (escaped_char (code_unit s 2) 5)
   good-unit e q r =
       let p = inside= s 1 0x75 e (omega arith) in
       let m = unit-small s 2 in
@@ -269,17 +269,13 @@ module _ (s : List ℕ) where
       subst (Good s) (unit-char s (code_unit s 2) q r) (good-unit (eqb-true _ _ e) q r)))
       (λ e. subst (Good s) (escape-short s (λ x. false≢true (sym e ∙ eq-eqb _ _ x))) (good-short p))
 
-  pub char-good : {r : Escaped} {c n : ℕ} → 0 < length s → r ≡ escape_of s → r ≡ Char c n → Writable s c n
+  pub char-good : {r : Option Escaped} {c n : ℕ} → 0 < length s → r ≡ escape_of s → r ≡ escaped_char c n → Writable s c n
   char-good p e q = subst (Good s) (sym e ∙ q) (escape-good p)
 
 -- ---- as the program makes them
 
 pub digit_is : {r : ℕ} (b : ℕ) → r ≡ hex_digit b → r ≤ 15
 digit_is b e = let h = digit-small b in omega arith
-
-pub short-last : (b : ℕ) → (b ≡ 98 → ⊥) → (b ≡ 102 → ⊥) → (b ≡ 110 → ⊥) → (b ≡ 114 → ⊥) → (b ≡ 116 → ⊥) → (b ≡ 34 → ⊥) → (b ≡ 47 → ⊥) → 92 ≡ short_of b
-unfolding short_of
-short-last b f1 f2 f3 f4 f5 f6 f7 = rw (ne_eqb b 0x62 f1, ne_eqb b 0x66 f2, ne_eqb b 0x6E f3, ne_eqb b 0x72 f4, ne_eqb b 0x74 f5, ne_eqb b 0x22 f6, ne_eqb b 0x2F f7)
 
 pub unit_is : (s : List ℕ) (i : ℕ) {a b c d pa pb pc pd : ℕ} → a ≡ hex_digit pa → pa ≡ byte s i → b ≡ hex_digit pb → pb ≡ byte s (i + 1) → c ≡ hex_digit pc → pc ≡ byte s (i + 2) → d ≡ hex_digit pd → pd ≡ byte s (i + 3) → 4096 * a + (256 * b + (16 * c + d)) ≡ code_unit s i
 unfolding code_unit
@@ -290,23 +286,23 @@ unit_is s i a ea b eb c ec d ed =
     let w = d ∙ ap hex_digit ed in
     omega arith
 
-pub pair_made : (s : List ℕ) (h : ℕ) {l : ℕ} → byte s 6 ≡ 0x5C → byte s 7 ≡ 0x75 → l ≡ code_unit s 8 → is_low l ≡ true → Char (0x10000 + (1024 * (h - 0xD800) + (l - 0xDC00))) 11 ≡ pair_after s h
+pub pair_made : (s : List ℕ) (h : ℕ) {l : ℕ} → byte s 6 ≡ 0x5C → byte s 7 ≡ 0x75 → l ≡ code_unit s 8 → is_low l ≡ true → escaped_char (0x10000 + (1024 * (h - 0xD800) + (l - 0xDC00))) 11 ≡ pair_after s h
 unfolding pair_of
-pair_made s h e f x q = ap (λ (u : ℕ). Char (pair_of h u) 11) x ∙ pair_is s h e f (ap is_low (sym x) ∙ q)
+pair_made s h e f x q = ap (λ (u : ℕ). escaped_char (pair_of h u) 11) x ∙ pair_is s h e f (ap is_low (sym x) ∙ q)
 
 module _ (s : List ℕ) {b : ℕ} (p : b ≡ byte s 1) where
-  pub short-made : {c : ℕ} → (b ≡ 117 → ⊥) → c ≡ short_of b → Char c 1 ≡ escape_of s
-  short-made n e = ap (λ (x : ℕ). Char x 1) (e ∙ ap short_of p) ∙ escape-short s (λ q. n (p ∙ q))
+  pub short-made : {c : ℕ} → (b ≡ 117 → ⊥) → c ≡ short_of b → escaped_char c 1 ≡ escape_of s
+  short-made n e = ap (λ (x : ℕ). escaped_char x 1) (e ∙ ap short_of p) ∙ escape-short s (λ q. n (p ∙ q))
 
   module _ (t : b ≡ 117) {u : ℕ} (x : u ≡ code_unit s 2) where
-    made : {r : Escaped} → r ≡ unit_escape s u → r ≡ escape_of s
+    made : {r : Option Escaped} → r ≡ unit_escape s u → r ≡ escape_of s
     made q = q ∙ ap (unit_escape s) x ∙ escape-unit s (sym p ∙ t)
 
-    pub high-made : {r : Escaped} → is_high u ≡ true → r ≡ pair_after s u → r ≡ escape_of s
+    pub high-made : {r : Option Escaped} → is_high u ≡ true → r ≡ pair_after s u → r ≡ escape_of s
     high-made q y = made (y ∙ unit-high s u q)
 
-    pub low-made : is_high u ≡ false → is_low u ≡ true → Unpaired ≡ escape_of s
+    pub low-made : is_high u ≡ false → is_low u ≡ true → None ≡ escape_of s
     low-made q r = made (unit-low s u q r)
 
-    pub char_made : is_high u ≡ false → is_low u ≡ false → Char u 5 ≡ escape_of s
+    pub char_made : is_high u ≡ false → is_low u ≡ false → escaped_char u 5 ≡ escape_of s
     char_made q r = made (unit-char s u q r)

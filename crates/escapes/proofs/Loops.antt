@@ -1,10 +1,11 @@
 -- Laws of the loops.
+use Rattle.std.specs.Prelude.{None, Option, Some}
 use Prim.Native.Nat.{ℕ, zero, suc, ◌+◌, ◌-◌, ◌≤◌, ◌<◌, min}
 use native.Mathlib.Nat.{min-eq_left}
-use native.Mathlib.Numerals.{add-one}
 use native.Mathlib.Omega.{arith}
 use mathlib.Core.Path.{◌≡◌, refl, sym, ap, ◌∙◌}
 use mathlib.Core.List.{List, [], ◌∷◌}
+use mathlib.Core.Logic.{◌⊎◌, inl, inr}
 use mathlib.Core.Bool.{Bool, true, false, false≢true}
 use lib.ListN.{length, take, drop, get_or, drop_of_length-le}
 use lib.Seq.{drop-cons, drop-drop}
@@ -15,28 +16,15 @@ use Rattle.text.proofs.Bytes.{both}
 use Rattle.json_text.specs.Strings.{is_plain}
 use Rattle.json_text.proofs.Bytes.{split}
 use Rattle.escapes.specs.declared.Escaped.{Escaped}
-use Rattle.escapes.specs.declared.Escaped.TheVariants.{Char, Unpaired}
-use Rattle.escapes.specs.declared.HalfPair.{HalfPair}
-use Rattle.escapes.specs.declared.HalfPair.TheVariants.{At, Nothing}
-use Rattle.escapes.specs.Escapes.{escape_of, utf8}
+use Rattle.escapes.specs.declared.Step.{Step}
+use Rattle.escapes.specs.declared.Step.TheVariants.{Byte, Stop, Over}
+use Rattle.escapes.specs.Parts.{step_at}
+use Rattle.escapes.specs.Escapes.{escape_of, utf8, escaped_char}
 use Rattle.escapes.specs.Decode.{Decoded, whole, half, join, decode_after, decode, bytes_of, half_of, is_this, alike, written}
 use Rattle.escapes.proofs.Steps.{escape-here}
-use Rattle.escapes.proofs.Walk.{content, front, tail, Place, Stepped, byte-first, start-place, start-tail, decode-plain, decode-char, decode-half}
+use Rattle.escapes.proofs.Walk.{content, front, tail, Place, Stepped, stepped, stopped, over, byte-first, start-place, start-tail, decode-plain, decode-char, decode-half}
 
 -- ---- no backslash
-
-module _ (s : List ℕ) (i : ℕ) where
-  pub plain_end : length s ≤ i → is_plain (drop i s) ≡ true
-  unfolding is_plain
-  plain_end h = rw (drop_of_length-le s h)
-
-  pub plain_no : i < length s → get_or s i 0 ≡ 92 → is_plain (drop i s) ≡ false
-  unfolding is_plain
-  plain_no h e = rw (drop-cons s i 0 h) (rw (eq-eqb (get_or s i 0) 92 e, is_plain))
-
-  pub plain_more : i < length s → (get_or s i 0 ≡ 92 → ⊥) → is_plain (drop (i + 1) s) ≡ is_plain (drop i s)
-  unfolding is_plain
-  plain_more h n = rw (drop-cons s i 0 h, add-one) (rw (ne_eqb (get_or s i 0) 92 n, is_plain))
 
 -- such bytes write themselves
 pub decode-itself : (s : List ℕ) → is_plain s ≡ true → decode s ≡ whole s
@@ -120,11 +108,11 @@ pub comparing : (s name : List ℕ) → Comparing s name 0 0 0
 comparing s name = record { place = start-place s; to = omega arith; same = ap (is_this name) (start-tail s) ∙ this-content name (decode s) }
 
 module _ {s name : List ℕ} {i o j : ℕ} (v : Comparing s name i o j) where
-  pub compare-stop : tail s i o ≡ half 0 → false ≡ is_this name (decode s)
+  compare-stop : tail s i o ≡ half 0 → false ≡ is_this name (decode s)
   unfolding is_this
   compare-stop e = ap (is_this (drop j name)) (sym e) ∙ v.same
 
-  pub compare-over : tail s i o ≡ whole [] → eqb j (length name) ≡ is_this name (decode s)
+  compare-over : tail s i o ≡ whole [] → eqb j (length name) ≡ is_this name (decode s)
   unfolding is_this eq_bytes
   compare-over e = split (length name) j
       (λ h. eq-eqb j (length name) (omega (arith, v.to)) ∙ ap (λ (l : List ℕ). eq_bytes [] l) (sym (drop_of_length-le name h)))
@@ -136,7 +124,7 @@ module _ {s name : List ℕ} {i o j : ℕ} (v : Comparing s name i o j) where
     one : is_this (drop j name) (front (b ∷ []) (tail s p q)) ≡ is_this name (decode s)
     one = ap (is_this (drop j name)) (sym w.same) ∙ v.same
 
-    pub compare-long : length name ≤ j → false ≡ is_this name (decode s)
+    compare-long : length name ≤ j → false ≡ is_this name (decode s)
     compare-long h = ends (tail s p q) ∙ ap (λ (l : List ℕ). is_this l (front (b ∷ []) (tail s p q))) (sym (drop_of_length-le name h)) ∙ one
       where
         ends : (x : Decoded) → false ≡ is_this [] (front (b ∷ []) x)
@@ -154,6 +142,21 @@ module _ {s name : List ℕ} {i o j : ℕ} (v : Comparing s name i o j) where
 
       pub compare-more : b ≡ get_or name j 0 → Comparing s name p q (j + 1)
       compare-more e = record { place = w.place; to = omega arith; same = sym (this-more b (get_or name j 0) (drop (j + 1) name) (tail s p q) e) ∙ two }
+
+  -- the bytes end before the name
+  pub compare-short : j < length name → {r : Step} → r ≡ step_at s i o → (r ≡ Stop) ⊎ (r ≡ Over) → false ≡ is_this name (decode s)
+  compare-short h e (inl f) = compare-stop (stopped s i o v.place e f)
+  compare-short h e (inr f) = sym (ne_eqb j (length name) (λ q. omega arith)) ∙ compare-over (over s i o v.place e f)
+
+  -- the name ends: with the bytes, or before them
+  module _ (h : length name ≤ j) where
+    pub compare-all : {r : Step} → r ≡ step_at s i o → r ≡ Over → true ≡ is_this name (decode s)
+    compare-all e f = sym (eq-eqb j (length name) (omega (arith, v.to))) ∙ compare-over (over s i o v.place e f)
+
+    pub compare-rest : (r : Step) → r ≡ step_at s i o → (r ≡ Over → ⊥) → false ≡ is_this name (decode s)
+    compare-rest (Byte b p q) e n = compare-long (stepped s i o v.place e refl) h
+    compare-rest Stop e n = compare-stop (stopped s i o v.place e refl)
+    compare-rest Over e n = absurd (n refl)
 
 -- ---- comparing two
 pub record Pairing (a b : List ℕ) (i o j p : ℕ) : Type 0 where
@@ -173,7 +176,7 @@ module _ {a b : List ℕ} {i o j p : ℕ} (v : Pairing a b i o j p) where
   pair-stop e = pair_at e refl refl
 
   module _ (e : tail a i o ≡ whole []) where
-    pub over-stop : tail b j p ≡ half 0 → false ≡ alike (decode a) (decode b)
+    over-stop : tail b j p ≡ half 0 → false ≡ alike (decode a) (decode b)
     unfolding alike is_this
     over-stop f = pair_at e f refl
 
@@ -181,18 +184,18 @@ module _ {a b : List ℕ} {i o j p : ℕ} (v : Pairing a b i o j p) where
     unfolding alike is_this eq_bytes
     over-over f = pair_at e f refl
 
-    pub over-more : {y k l : ℕ} → Stepped b j p y k l → false ≡ alike (decode a) (decode b)
+    over-more : {y k l : ℕ} → Stepped b j p y k l → false ≡ alike (decode a) (decode b)
     unfolding alike
     over-more {y} {k} {l} w = pair_at e w.same (empty y (tail b k l))
 
   module _ {x i₂ o₂ : ℕ} (w : Stepped a i o x i₂ o₂) where
-    pub more-stop : tail b j p ≡ half 0 → false ≡ alike (decode a) (decode b)
+    more-stop : tail b j p ≡ half 0 → false ≡ alike (decode a) (decode b)
     more-stop f = pair_at w.same f (ends (tail a i₂ o₂))
       where
         ends : (t : Decoded) → false ≡ alike (front (x ∷ []) t) (half 0)
         ends t = alike-none x t
 
-    pub more-over : tail b j p ≡ whole [] → false ≡ alike (decode a) (decode b)
+    more-over : tail b j p ≡ whole [] → false ≡ alike (decode a) (decode b)
     more-over f = pair_at w.same f (alike_end x (tail a i₂ o₂))
 
     module _ {y j₂ p₂ : ℕ} (z : Stepped b j p y j₂ p₂) where
@@ -205,6 +208,18 @@ module _ {a b : List ℕ} {i o j p : ℕ} (v : Pairing a b i o j p) where
         second = z.place;
         same = sym (alike-more x y (tail a i₂ o₂) (tail b j₂ p₂) e) ∙ ap (alike (front (x ∷ []) (tail a i₂ o₂))) (sym z.same) ∙ ap (λ (t : Decoded). alike t (tail b j p)) (sym w.same) ∙ v.same;
       }
+
+  -- the first goes on, the second does not
+  pub pair-longer : {x i₂ o₂ : ℕ} → Stepped a i o x i₂ o₂ → (r : Step) → r ≡ step_at b j p → ((y k l : ℕ) → r ≡ Byte y k l → ⊥) → false ≡ alike (decode a) (decode b)
+  pair-longer w (Byte y k l) e n = absurd (n y k l refl)
+  pair-longer w Stop e n = more-stop w (stopped b j p v.second e refl)
+  pair-longer w Over e n = more-over w (over b j p v.second e refl)
+
+  -- the first ends, the second does not
+  pub pair-shorter : tail a i o ≡ whole [] → (r : Step) → r ≡ step_at b j p → (r ≡ Over → ⊥) → false ≡ alike (decode a) (decode b)
+  pair-shorter f (Byte y k l) e n = over-more f (stepped b j p v.second e refl)
+  pair-shorter f Stop e n = over-stop f (stopped b j p v.second e refl)
+  pair-shorter f Over e n = absurd (n refl)
 
 -- ---- counting
 unfoldable pub total : ℕ → Decoded → ℕ
@@ -245,14 +260,14 @@ module _ {s : List ℕ} {i o n : ℕ} (v : Counting s i o n) where
 -- ---- the first half
 
 -- by its place in bytes that begin at i
-unfoldable pub half_from : ℕ → Decoded → HalfPair
-half_from i (whole t) = Nothing
-half_from i (half p) = At (i + p)
+unfoldable pub half_from : ℕ → Decoded → Option ℕ
+half_from i (whole t) = None
+half_from i (half p) = Some (i + p)
 
 half_from_lem : (d : Decoded) → half_from 0 d ≡ half_of d
 unfolding half_from half_of
 half_from_lem (whole t) = refl
-half_from_lem (half p) = let e : 0 + p ≡ p = omega arith in ap At e
+half_from_lem (half p) = let e : 0 + p ≡ p = omega arith in ap Some e
 
 half-nothing : (i j : ℕ) → half_from i (decode []) ≡ half_from j (decode [])
 unfolding half_from decode_after
@@ -268,7 +283,7 @@ seeking s = record { to = omega arith; same = half_from_lem (decode s) }
 half-join : (i : ℕ) (w : List ℕ) (d : Decoded) → half_from i (join w d) ≡ half_from (i + 1) d
 unfolding half_from join
 half-join i w (whole t) = refl
-half-join i w (half p) = let e : i + suc p ≡ i + 1 + p = omega arith in ap At e
+half-join i w (half p) = let e : i + suc p ≡ i + 1 + p = omega arith in ap Some e
 
 half_skip : (i n : ℕ) (s : List ℕ) → half_from i (decode_after n s) ≡ half_from (i + n) (decode (drop n s))
 unfolding decode_after
@@ -277,7 +292,7 @@ half_skip i (suc n) [] = half-nothing i (i + suc n)
 half_skip i (suc n) (b ∷ s) = half-join i [] (decode_after n s) ∙ half_skip (i + 1) n s ∙ (let e : i + 1 + n ≡ i + suc n = omega arith in ap (λ (k : ℕ). half_from k (decode (drop n s))) e)
 
 module _ {s : List ℕ} {i : ℕ} (v : Seeking s i) where
-  pub seek-end : length s ≤ i → Nothing ≡ half_of (decode s)
+  pub seek-end : length s ≤ i → None ≡ half_of (decode s)
   unfolding half_from decode_after
   seek-end h = ap (λ (l : List ℕ). half_from i (decode l)) (sym (drop_of_length-le s h)) ∙ v.same
 
@@ -291,15 +306,15 @@ module _ {s : List ℕ} {i : ℕ} (v : Seeking s i) where
       same = sym (half-join i (get_or s i 0 ∷ []) (decode (drop (i + 1) s))) ∙ ap (half_from i) (sym (decode-plain (get_or s i 0) (drop (i + 1) s) n)) ∙ ap (λ (l : List ℕ). half_from i (decode l)) (sym first) ∙ v.same;
     }
 
-    module _ (b : get_or s i 0 ≡ 0x5C) {r : Escaped} (e : r ≡ escape_of (take (length s - i) (drop i s))) where
-      found : {x : Escaped} → r ≡ x → escape_of (get_or s i 0 ∷ drop (i + 1) s) ≡ x
+    module _ (b : get_or s i 0 ≡ 0x5C) {r : Option Escaped} (e : r ≡ escape_of (take (length s - i) (drop i s))) where
+      found : {x : Option Escaped} → r ≡ x → escape_of (get_or s i 0 ∷ drop (i + 1) s) ≡ x
       found q = ap escape_of (sym first) ∙ sym (escape-here s i 0 h b e) ∙ q
 
-      pub seek-half : r ≡ Unpaired → At i ≡ half_of (decode s)
+      pub seek-half : r ≡ None → Some i ≡ half_of (decode s)
       unfolding half_from
-      seek-half q = (let z : i ≡ i + 0 = omega arith in ap At z) ∙ ap (half_from i) (sym (decode-half (get_or s i 0) (drop (i + 1) s) b (found q))) ∙ ap (λ (l : List ℕ). half_from i (decode l)) (sym first) ∙ v.same
+      seek-half q = (let z : i ≡ i + 0 = omega arith in ap Some z) ∙ ap (half_from i) (sym (decode-half (get_or s i 0) (drop (i + 1) s) b (found q))) ∙ ap (λ (l : List ℕ). half_from i (decode l)) (sym first) ∙ v.same
 
-      pub seek-char : {c n p : ℕ} → r ≡ Char c n → p ≡ min (i + 1 + n) (length s) → Seeking s p
+      pub seek-char : {c n p : ℕ} → r ≡ escaped_char c n → p ≡ min (i + 1 + n) (length s) → Seeking s p
       seek-char {c} {n} {p} q x = record {
         to = omega arith;
         same =

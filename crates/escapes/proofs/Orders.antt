@@ -1,4 +1,5 @@
 -- Laws of the order.
+use Rattle.std.specs.Prelude.{None, Option, Some}
 use Prim.Native.Nat.{ℕ, suc}
 use native.Mathlib.Omega.{arith}
 use mathlib.Core.Path.{◌≡◌, refl, sym, ap, ◌∙◌}
@@ -10,15 +11,16 @@ use borrow.Author.Tests.{lt-ltb, le-ltb, eq-eqb, ne_eqb}
 use Rattle.text.specs.Bytes.{less_bytes}
 use Rattle.text.proofs.Bytes.{and_both}
 use Rattle.json_text.specs.Strings.{is_plain}
-use Rattle.escapes.specs.declared.HalfPair.{HalfPair}
-use Rattle.escapes.specs.declared.HalfPair.TheVariants.{At, Nothing}
 use Rattle.escapes.specs.Decode.{Decoded, whole, half, decode, bytes_of, written, half_of}
-use Rattle.escapes.proofs.Walk.{some-half, whole_of, front, tail, Place, Stepped, start-place, start-tail}
+use Rattle.escapes.specs.declared.Step.{Step}
+use Rattle.escapes.specs.declared.Step.TheVariants.{Byte, Stop, Over}
+use Rattle.escapes.specs.Parts.{step_at}
+use Rattle.escapes.proofs.Walk.{some-half, whole_of, front, tail, Place, Stepped, start-place, start-tail, stopped, over}
 use Rattle.escapes.proofs.Loops.{plain-written}
 
 -- ---- with a half, and without
 
-half_empty : (d : Decoded) {p : ℕ} → half_of d ≡ At p → bytes_of d ≡ []
+half_empty : (d : Decoded) {p : ℕ} → half_of d ≡ Some p → bytes_of d ≡ []
 unfolding bytes_of
 half_empty d e = ap bytes_of (some-half d e)
 
@@ -44,11 +46,11 @@ unfolding less_bytes
 less_none l = refl
 
 module _ (a b : List ℕ) where
-  pub half-second : {r : HalfPair} {p : ℕ} → r ≡ half_of (decode b) → r ≡ At p → false ≡ less_bytes (written a) (written b)
+  pub half-second : {r : Option ℕ} {p : ℕ} → r ≡ half_of (decode b) → r ≡ Some p → false ≡ less_bytes (written a) (written b)
   unfolding written
   half-second e q = less_none (written a) ∙ ap (less_bytes (written a)) (sym (half_empty (decode b) (sym e ∙ q)))
 
-  pub half-first : {r : HalfPair} {p n : ℕ} → r ≡ half_of (decode a) → r ≡ At p → n ≡ length (written b) → ltb 0 n ≡ less_bytes (written a) (written b)
+  pub half-first : {r : Option ℕ} {p n : ℕ} → r ≡ half_of (decode a) → r ≡ Some p → n ≡ length (written b) → ltb 0 n ≡ less_bytes (written a) (written b)
   unfolding written
   half-first e q s = ap (ltb 0) s ∙ less_empty (written b) ∙ ap (λ (l : List ℕ). less_bytes l (written b)) (sym (half_empty (decode a) (sym e ∙ q)))
 
@@ -65,7 +67,7 @@ pub record Racing (a b : List ℕ) (i o j p : ℕ) : Type 0 where
   pub right : tail b j p ≡ whole y
   pub same : less_bytes x y ≡ less_bytes (written a) (written b)
 
-pub racing : (a b : List ℕ) → half_of (decode a) ≡ Nothing → half_of (decode b) ≡ Nothing → Racing a b 0 0 0 0
+pub racing : (a b : List ℕ) → half_of (decode a) ≡ None → half_of (decode b) ≡ None → Racing a b 0 0 0 0
 unfolding written
 racing a b e f = record {
   first = start-place a;
@@ -94,11 +96,17 @@ module _ {a b : List ℕ} {i o j p : ℕ} (v : Racing a b i o j p) where
   pub race_no {ℓ} : {X : Type ℓ} → tail a i o ≡ half 0 → X
   race_no e = absurd (let q = v.left in let z : ◌≡◌ {A = ℕ} 0 1 = cc in omega arith)
 
-  pub race-none {ℓ} : {X : Type ℓ} → tail b j p ≡ half 0 → X
+  race-none {ℓ} : {X : Type ℓ} → tail b j p ≡ half 0 → X
   race-none e = absurd (let q = v.right in let z : ◌≡◌ {A = ℕ} 0 1 = cc in omega arith)
 
-  pub race-end : tail b j p ≡ whole [] → false ≡ less_bytes (written a) (written b)
+  race-end : tail b j p ≡ whole [] → false ≡ less_bytes (written a) (written b)
   race-end e = less_none v.x ∙ ap (less_bytes v.x) (whole_same (sym e ∙ v.right)) ∙ v.same
+
+  -- the second does not go on
+  pub race-late : (r : Step) → r ≡ step_at b j p → ((y k l : ℕ) → r ≡ Byte y k l → ⊥) → false ≡ less_bytes (written a) (written b)
+  race-late (Byte y k l) e n = absurd (n y k l refl)
+  race-late Stop e n = race-none (stopped b j p v.second e refl)
+  race-late Over e n = race-end (over b j p v.second e refl)
 
   module _ {c j₂ p₂ : ℕ} (w : Stepped b j p c j₂ p₂) where
     ahead : Tail c v.y (tail b j₂ p₂)

@@ -1,4 +1,5 @@
 -- A string of a JSON text in UTF-8 writes characters, each in one of the ways, or has half a pair.
+use Rattle.std.specs.Prelude.{Option, None}
 use Prim.Native.Nat.{ℕ, zero, suc, ◌+◌, ◌*◌, ◌-◌, ◌≤◌, ◌<◌}
 use native.Mathlib.Omega.{arith}
 use mathlib.Core.Path.{◌≡◌, refl, sym, ap, ◌∙◌, subst}
@@ -27,7 +28,6 @@ use Rattle.json_text.specs.declared.string.State.TheVariants as J
 use Rattle.json_text.specs.declared.string.Move.TheVariants.{Go, Shut, Stuck}
 use Rattle.json_text.proofs.Strings.{plain-plain, plain_stuck, escape-plain, escape_stuck, hex_go, hex_stuck}
 use Rattle.escapes.specs.declared.Escaped.{Escaped}
-use Rattle.escapes.specs.declared.Escaped.TheVariants.{Unpaired}
 use Rattle.escapes.specs.Escapes.{hex_digit, code_unit, is_high, is_low, escape_of, utf8, unit_escape, pair_after}
 use Rattle.escapes.specs.Decode.{half, decode}
 use Rattle.escapes.specs.Writes.{Hex, decimal, upper, lower, Hex4, digits, Short, quotation-mark, reverse-solidus, solidus, backspace, form_feed, line_feed, carriage_return, tab, Writes, unescaped, short, unit, pair, WritesAll, none, more}
@@ -142,7 +142,7 @@ unfolding lead
 prepend {c} t n a (chars cs r) = chars (c ∷ cs) (more n a r)
 prepend {c} {w} t n a (broken p e) = broken (length w + p) (one_way t n a ∙ ap (lead (length w) (utf8 c)) e)
 
-half-here : (s : List ℕ) → escape_of (0x5C ∷ s) ≡ Unpaired → Reads (0x5C ∷ s)
+half-here : (s : List ℕ) → escape_of (0x5C ∷ s) ≡ None → Reads (0x5C ∷ s)
 half-here s e = broken 0 (decode-half 0x5C s refl e)
 
 -- four digits and what follows them
@@ -200,7 +200,7 @@ module _ (f : ℕ) (ih : (t : List ℕ) → length t < f → Runs J.Plain t → 
       unfolding value here
       its-unit = unit_2 x y z k refl r
 
-      as-unit : {q : Escaped} → q ≡ unit_escape here (value a b c d) → escape_of here ≡ q
+      as-unit : {q : Option Escaped} → q ≡ unit_escape here (value a b c d) → escape_of here ≡ q
       unfolding here
       as-unit e = sym (e ∙ ap (unit_escape here) (sym its-unit) ∙ escape-unit here (second_u (a ∷ b ∷ c ∷ d ∷ r)))
 
@@ -208,7 +208,7 @@ module _ (f : ℕ) (ih : (t : List ℕ) → length t < f → Runs J.Plain t → 
       unfolding here
       as-low p q = half-here (0x75 ∷ a ∷ b ∷ c ∷ d ∷ r) (as-unit (unit-low here (value a b c d) p q))
 
-      as-broken : is_high (value a b c d) ≡ true → Unpaired ≡ pair_after here (value a b c d) → Reads here
+      as-broken : is_high (value a b c d) ≡ true → None ≡ pair_after here (value a b c d) → Reads here
       unfolding here
       as-broken p q = half-here (0x75 ∷ a ∷ b ∷ c ∷ d ∷ r) (as-unit (q ∙ unit-high here (value a b c d) p))
 

@@ -1,4 +1,5 @@
 -- A string has no more bytes than stand between its quotes, and fewer where one is a backslash.
+use Rattle.std.specs.Prelude.{Option, None, Some}
 use Prim.Native.Nat.{ℕ, zero, suc, ◌+◌, ◌-◌, ◌≤◌, ◌<◌}
 use native.Mathlib.Omega.{arith}
 use mathlib.Core.Path.{◌≡◌, refl, sym, ap, ◌∙◌}
@@ -12,7 +13,6 @@ use Rattle.json_text.specs.Bytes.{byte}
 use Rattle.json_text.specs.Strings.{is_plain, text_step}
 use Rattle.json_text.specs.declared.string.State.TheVariants as J
 use Rattle.escapes.specs.declared.Escaped.{Escaped}
-use Rattle.escapes.specs.declared.Escaped.TheVariants.{Char, Unpaired}
 use Rattle.escapes.specs.Escapes.{escape_of, utf8}
 use Rattle.escapes.specs.Decode.{Decoded, whole, half, join, decode_after, decode, bytes_of}
 use Rattle.escapes.proofs.Escapes.{char-good}
@@ -33,8 +33,10 @@ size-first b s f = both (eqb b 0x5C)
     (λ q. go (escape_of (b ∷ s)) refl (eqb-true _ _ q))
     (λ q. let e = ap size (decode-plain b s (eqb-false _ _ q)) in let j = size-join (b ∷ []) (decode s) in let i = f 0 in omega arith)
   where
-    go : (x : Escaped) → x ≡ escape_of (b ∷ s) → b ≡ 0x5C → size (decode (b ∷ s)) ≤ suc (length s)
-    go (Char c n) q g =
+    go : (x : Option Escaped) → x ≡ escape_of (b ∷ s) → b ≡ 0x5C → size (decode (b ∷ s)) ≤ suc (length s)
+    go (Some t) q g =
+        let c = t.code in
+        let n = t.len in
         let e = ap size (decode-char b s g (sym q)) in
         let j = size-join (utf8 c) (decode_after n s) in
         let i = f n in
@@ -42,7 +44,7 @@ size-first b s f = both (eqb b 0x5C)
         let x = w.few in
         let y = w.fits in
         omega arith
-    go Unpaired q g = let e = ap size (decode-half b s g (sym q)) in omega arith
+    go None q g = let e = ap size (decode-half b s g (sym q)) in omega arith
 
 pub no_longer : (n : ℕ) (s : List ℕ) → size (decode_after n s) ≤ length s - n
 unfolding decode_after bytes_of
@@ -74,8 +76,10 @@ size-escape : (b : ℕ) (s : List ℕ) → b ≡ 0x5C → Runs J.Escape s → si
 unfolding bytes_of
 size-escape b s g r = go (escape_of (b ∷ s)) refl
   where
-    go : (x : Escaped) → x ≡ escape_of (b ∷ s) → size (decode (b ∷ s)) < suc (length s)
-    go (Char c n) q =
+    go : (x : Option Escaped) → x ≡ escape_of (b ∷ s) → size (decode (b ∷ s)) < suc (length s)
+    go (Some t) q =
+        let c = t.code in
+        let n = t.len in
         let e = ap size (decode-char b s g (sym q)) in
         let j = size-join (utf8 c) (decode_after n s) in
         let i = no_longer n s in
@@ -84,7 +88,7 @@ size-escape b s g r = go (escape_of (b ∷ s)) refl
         let o = escape-one s r in
         let y = w.fewer (omega arith) (λ f. let k = escape-three b s r f in omega arith) in
         omega arith
-    go Unpaired q = let e = ap size (decode-half b s g (sym q)) in omega arith
+    go None q = let e = ap size (decode-half b s g (sym q)) in omega arith
 
 slash-after : (b : ℕ) (s : List ℕ) → b ≡ 0x5C → Runs J.Plain (b ∷ s) → Runs J.Escape s
 unfolding Runs

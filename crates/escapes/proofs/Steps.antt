@@ -1,4 +1,5 @@
 -- Laws of the functions up to the step.
+use Rattle.std.specs.Prelude.{Option, None}
 use Prim.Native.Nat.{ℕ, ◌+◌, ◌-◌, ◌≤◌, ◌<◌, min}
 use native.Mathlib.Omega.{arith}
 use mathlib.Core.Path.{◌≡◌, sym, ap, ◌∙◌}
@@ -9,11 +10,10 @@ use borrow.Author.Tests.{eq-eqb, ne_eqb, lt-ltb, le-ltb}
 use Rattle.json_text.specs.Bytes.{byte}
 use Rattle.json_text.proofs.Bytes.{byte_in}
 use Rattle.escapes.specs.declared.Escaped.{Escaped}
-use Rattle.escapes.specs.declared.Escaped.TheVariants.{Char, Unpaired}
 use Rattle.escapes.specs.declared.Step.{Step}
 use Rattle.escapes.specs.declared.Step.TheVariants.{Byte, Stop, Over}
 use Rattle.escapes.specs.declared.Coded.{Coded}
-use Rattle.escapes.specs.Escapes.{escape_of, utf8}
+use Rattle.escapes.specs.Escapes.{escape_of, utf8, escaped_char}
 use Rattle.escapes.specs.Parts.{coded_of, char_step, escape_step, step_at}
 use Rattle.escapes.proofs.Escapes.{utf8-few, Writable, char-good}
 
@@ -59,17 +59,17 @@ module _ (s : List ℕ) (i o : ℕ) where
       unfolding step_at
       step-escape = rw (lt-ltb i (length s) h, step_at) (rw (eq-eqb (byte s i) 0x5C (sym (byte_in s i h) ∙ b)))
 
-      module _ {r : Escaped} (e : r ≡ escape_of (take (length s - i) (drop i s))) where
+      module _ {r : Option Escaped} (e : r ≡ escape_of (take (length s - i) (drop i s))) where
         pub escape-here : r ≡ escape_of (drop i s)
         escape-here = e ∙ ap escape_of (take_all (length s - i) (drop i s) (rw (length-drop i s) (omega arith)))
 
-        pub step-half : r ≡ Unpaired → Stop ≡ step_at s i o
+        pub step-half : r ≡ None → Stop ≡ step_at s i o
         unfolding escape_step
-        step-half q = ap (λ (x : Escaped). escape_step x i o (length s)) (sym q ∙ escape-here) ∙ step-escape
+        step-half q = ap (λ (x : Option Escaped). escape_step x i o (length s)) (sym q ∙ escape-here) ∙ step-escape
 
-        pub step-char : {c n p : ℕ} {t : Step} → r ≡ Char c n → p ≡ min (i + 1 + n) (length s) → t ≡ char_step c o i p → t ≡ step_at s i o
+        pub step-char : {c n p : ℕ} {t : Step} → r ≡ escaped_char c n → p ≡ min (i + 1 + n) (length s) → t ≡ char_step c o i p → t ≡ step_at s i o
         unfolding escape_step
-        step-char {c} {n} q x y = y ∙ ap (char_step c o i) x ∙ ap (λ (z : Escaped). escape_step z i o (length s)) (sym q ∙ escape-here) ∙ step-escape
+        step-char {c} {n} q x y = y ∙ ap (char_step c o i) x ∙ ap (λ (z : Option Escaped). escape_step z i o (length s)) (sym q ∙ escape-here) ∙ step-escape
 
-        pub step_writable : {c n : ℕ} → r ≡ Char c n → Writable (drop i s) c n
+        pub step_writable : {c n : ℕ} → r ≡ escaped_char c n → Writable (drop i s) c n
         step_writable q = char-good (drop i s) (rw (length-drop i s) (omega arith)) escape-here q

@@ -1,4 +1,5 @@
 -- A string of a text in UTF-8.
+use Rattle.std.specs.Prelude.{Err, Ok, Result}
 use Prim.Native.Nat.{ℕ, zero, suc, ◌+◌, ◌-◌, ◌≤◌, ◌<◌}
 use native.Mathlib.Numerals.{add-one}
 use native.Mathlib.Omega.{arith}
@@ -24,8 +25,6 @@ use Rattle.text.proofs.Scalars.{char_is}
 use Rattle.json_text.specs.Bytes.{byte}
 use Rattle.json_text.proofs.Bytes.{inside=}
 use Rattle.json_text.specs.Strings.{is_hex, is_escape, plain_step, escape_step, hex_step, text_step, text, string_at, raw_bytes, is_plain}
-use Rattle.json_text.specs.declared.Scan.{Scan}
-use Rattle.json_text.specs.declared.Scan.TheVariants.{End, Bad}
 use Rattle.json_text.specs.declared.string.State.{State}
 use Rattle.json_text.specs.declared.string.State.TheVariants as J
 use Rattle.json_text.specs.declared.string.Move.{Move}
@@ -132,15 +131,15 @@ record Taken (t : State) (l : List ℕ) (at e : ℕ) : Type 0 where
   pub rest : List ℕ
   pub parts : l ≡ take (e - 1 - at) l ++ (0x22 ∷ rest)
 
-end_same : {a b : ℕ} → End a ≡ End b → a ≡ b
+end_same : {a b : ℕ} → ◌≡◌ {A = Result ℕ ℕ} (Ok a) (Ok b) → a ≡ b
 end_same q = cc
 
-taken : (t : State) (l : List ℕ) (at e : ℕ) → text t l at ≡ End e → Taken t l at e
+taken : (t : State) (l : List ℕ) (at e : ℕ) → text t l at ≡ Ok e → Taken t l at e
 unfolding text Runs
 taken t [] at e q = absurd (let z : ◌≡◌ {A = ℕ} 0 1 = cc in omega arith)
 taken t (b ∷ l) at e q = go (text_step t b) refl (λ u. taken u l (at + 1) e)
   where
-    go : (m : Move) → text_step t b ≡ m → ((u : State) → text u l (at + 1) ≡ End e → Taken u l (at + 1) e) → Taken t (b ∷ l) at e
+    go : (m : Move) → text_step t b ≡ m → ((u : State) → text u l (at + 1) ≡ Ok e → Taken u l (at + 1) e) → Taken t (b ∷ l) at e
     go (Go u) p ih =
         let k = ih u (rw (p, text) at q) in
         let f = k.from in
@@ -161,16 +160,16 @@ taken t (b ∷ l) at e q = go (text_step t b) refl (λ u. taken u l (at + 1) e)
           rest = l;
           parts = ap (λ (x : ℕ). x ∷ l) s.1 ∙ ap (λ (j : ℕ). take j (b ∷ l) ++ (0x22 ∷ l)) (sym n);
         }
-    go Stuck p ih = absurd (let f : Bad at ≡ End e = rw (p, text) at q in let z : ◌≡◌ {A = ℕ} 0 1 = cc in omega arith)
+    go Stuck p ih = absurd (let f : Err at ≡ Ok e = rw (p, text) at q in let z : ◌≡◌ {A = ℕ} 0 1 = cc in omega arith)
 
 -- ---- a string in a text
 
-module _ (s : List ℕ) (k e : ℕ) (q : string_at s k ≡ End e) where
-  opening : (byte s k ≡ 0x22) × (text J.Plain (drop (k + 1) s) (k + 1) ≡ End e)
+module _ (s : List ℕ) (k e : ℕ) (q : string_at s k ≡ Ok e) where
+  opening : (byte s k ≡ 0x22) × (text J.Plain (drop (k + 1) s) (k + 1) ≡ Ok e)
   unfolding string_at
   opening = both (eqb (byte s k) 34)
       (λ p. (eqb-true _ _ p, rw (p, string_at) at q))
-      (λ p. absurd (let f : Bad k ≡ End e = rw (p, string_at) at q in let z : ◌≡◌ {A = ℕ} 0 1 = cc in omega arith))
+      (λ p. absurd (let f : Err k ≡ Ok e = rw (p, string_at) at q in let z : ◌≡◌ {A = ℕ} 0 1 = cc in omega arith))
 
   between : Taken J.Plain (drop (k + 1) s) (k + 1) e
   between = taken J.Plain (drop (k + 1) s) (k + 1) e opening.1
@@ -215,16 +214,16 @@ nothing-plain : is_plain [] ≡ true
 unfolding is_plain
 nothing-plain = refl
 
-no-string : (s : List ℕ) (k e : ℕ) → string_at s k ≡ Bad e → [] ≡ raw_bytes s k
+no-string : (s : List ℕ) (k e : ℕ) → string_at s k ≡ Err e → [] ≡ raw_bytes s k
 unfolding raw_bytes
 no-string s k e q = sym (rw (q, raw_bytes))
 
 pub written-utf8 : (s : List ℕ) (k : ℕ) → is_utf8 s ≡ true → is_utf8 (written (raw_bytes s k)) ≡ true
 written-utf8 s k g = (is_utf8_is (written (raw_bytes s k))).1 (go (string_at s k) refl)
   where
-    go : (x : Scan) → string_at s k ≡ x → written (raw_bytes s k) ∈ UTF8-octets
-    go (End e) q = reads-utf8 (reads s k e q ((utf8_contract (utf8_from ready s) s refl).1 ((is_utf8_is s).0 g)))
-    go (Bad e) q = subst (λ (l : List ℕ). written l ∈ UTF8-octets) (no-string s k e q) nothing-utf8
+    go : (x : Result ℕ ℕ) → string_at s k ≡ x → written (raw_bytes s k) ∈ UTF8-octets
+    go (Ok e) q = reads-utf8 (reads s k e q ((utf8_contract (utf8_from ready s) s refl).1 ((is_utf8_is s).0 g)))
+    go (Err e) q = subst (λ (l : List ℕ). written l ∈ UTF8-octets) (no-string s k e q) nothing-utf8
 
 -- ---- with a backslash it is shorter
 
@@ -232,6 +231,6 @@ pub escaped_shorter : (s : List ℕ) (k : ℕ) → is_plain (raw_bytes s k) ≡ 
 unfolding written
 escaped_shorter s k f = go (string_at s k) refl
   where
-    go : (x : Scan) → string_at s k ≡ x → length (written (raw_bytes s k)) < length (raw_bytes s k)
-    go (End e) q = fewer (raw_bytes s k) (raw_runs s k e q) f
-    go (Bad e) q = absurd (true≢false (sym nothing-plain ∙ ap is_plain (no-string s k e q) ∙ f))
+    go : (x : Result ℕ ℕ) → string_at s k ≡ x → length (written (raw_bytes s k)) < length (raw_bytes s k)
+    go (Ok e) q = fewer (raw_bytes s k) (raw_runs s k e q) f
+    go (Err e) q = absurd (true≢false (sym nothing-plain ∙ ap is_plain (no-string s k e q) ∙ f))

@@ -1,4 +1,5 @@
 -- What this crate promises beyond its contracts.
+use Rattle.std.specs.Prelude.{Ok, None, Some, Err, Result, Option}
 use Prim.Native.Nat.{ℕ, zero, suc, ◌-◌, ◌≤◌, ◌<◌}
 use native.Mathlib.Omega.{arith}
 use mathlib.Core.Path.{◌≡◌, refl, sym, ap, ◌∙◌, subst}
@@ -18,13 +19,8 @@ use Rattle.text.proofs.Bytes.{both, eq_bytes-true, eq_bytes-refl}
 use Rattle.text.proofs.Utf8.{utf8_contract, is_utf8_is}
 use Rattle.json_text.specs.Bytes.{byte}
 use Rattle.json_text.specs.Strings.{string_at, raw_bytes, is_plain}
-use Rattle.json_text.specs.declared.Scan.TheVariants.{End}
 use Rattle.json_text.proofs.Bytes.{inside=, split}
 use Rattle.escapes.specs.declared.Escaped.{Escaped}
-use Rattle.escapes.specs.declared.Escaped.TheVariants.{Char, Unpaired}
-use Rattle.escapes.specs.declared.HalfPair.TheVariants.{At, Nothing}
-use Rattle.escapes.specs.declared.Decoding.{Decoding}
-use Rattle.escapes.specs.declared.Decoding.TheVariants.{Whole, Half}
 use Rattle.escapes.specs.Escapes.{escape_of, utf8}
 use Rattle.escapes.specs.Decode.{Decoded, whole, half, join, decode_after, decode, bytes_of, written, half_of, is_this, alike, decoding_of, filled, Decodes, HalfAt}
 use Rattle.escapes.specs.Writes.{Writes, WritesAll, none, more, in_utf8}
@@ -71,7 +67,7 @@ pub all-written : {cs w : List ℕ} → WritesAll cs w → decode w ≡ whole (i
 all-written = every_way
 
 -- A string of a JSON text in UTF-8 is characters, each written in one of these ways, or it has half a pair.
-pub reading : (s : List ℕ) (k e : ℕ) → is_utf8 s ≡ true → string_at s k ≡ End e → ((cs : List ℕ) × WritesAll cs (raw_bytes s k)) ⊎ ((p : ℕ) × (decode (raw_bytes s k) ≡ half p))
+pub reading : (s : List ℕ) (k e : ℕ) → is_utf8 s ≡ true → string_at s k ≡ Ok e → ((cs : List ℕ) × WritesAll cs (raw_bytes s k)) ⊎ ((p : ℕ) × (decode (raw_bytes s k) ≡ half p))
 reading s k e g q = go (reads s k e q ((utf8_contract (utf8_from ready s) s refl).1 ((is_utf8_is s).0 g)))
   where
     go : Reads (raw_bytes s k) → ((cs : List ℕ) × WritesAll cs (raw_bytes s k)) ⊎ ((p : ℕ) × (decode (raw_bytes s k) ≡ half p))
@@ -94,9 +90,9 @@ at_first b s f = both (eqb b 0x5C)
     (λ q. go (escape_of (b ∷ s)) refl (eqb-true _ _ q))
     (λ q. subst (HalfOf (b ∷ s)) (sym (decode-plain b s (eqb-false _ _ q))) (one_on b s (b ∷ []) (decode s) (f 0)))
   where
-    go : (x : Escaped) → escape_of (b ∷ s) ≡ x → b ≡ 0x5C → HalfOf (b ∷ s) (decode (b ∷ s))
-    go (Char c n) e g = subst (HalfOf (b ∷ s)) (sym (decode-char b s g e)) (one_on b s (utf8 c) (decode_after n s) (f n))
-    go Unpaired e g = subst (HalfOf (b ∷ s)) (sym (decode-half b s g e)) (record { backslash = g; escape = e })
+    go : (x : Option Escaped) → escape_of (b ∷ s) ≡ x → b ≡ 0x5C → HalfOf (b ∷ s) (decode (b ∷ s))
+    go (Some t) e g = subst (HalfOf (b ∷ s)) (sym (decode-char b s g e)) (one_on b s (utf8 t.code) (decode_after t.len s) (f t.len))
+    go None e g = subst (HalfOf (b ∷ s)) (sym (decode-half b s g e)) (record { backslash = g; escape = e })
 
 first-half : (n : ℕ) (r : List ℕ) → HalfOf r (decode_after n r)
 unfolding HalfOf decode_after
@@ -122,11 +118,11 @@ module _ (r : List ℕ) where
   unfolding written bytes_of
   written-half e = ap bytes_of e
 
-  pub without-half : half_of (decode r) ≡ Nothing → decode r ≡ whole (written r)
+  pub without-half : half_of (decode r) ≡ None → decode r ≡ whole (written r)
   unfolding written
   without-half e = no-half (decode r) e
 
-  pub with-half : {p : ℕ} → half_of (decode r) ≡ At p → decode r ≡ half p
+  pub with-half : {p : ℕ} → half_of (decode r) ≡ Some p → decode r ≡ half p
   with-half e = some-half (decode r) e
 
 -- A string is a name exactly if it is decoded to its bytes.
@@ -188,28 +184,28 @@ pub record DecodedHalf (raw before after : List ℕ) (p : ℕ) : Type 0 where
   pub is : decode raw ≡ half p
   pub buffer : after ≡ before
 
-decoding-whole : (d : Decoded) (n : ℕ) → Whole n ≡ decoding_of d → (d ≡ whole (bytes_of d)) × (n ≡ length (bytes_of d))
+decoding-whole : (d : Decoded) (n : ℕ) → Ok n ≡ decoding_of d → (d ≡ whole (bytes_of d)) × (n ≡ length (bytes_of d))
 unfolding decoding_of bytes_of
 decoding-whole (whole t) n e = (refl, cc)
 decoding-whole (half p) n e = absurd (let z : ◌≡◌ {A = ℕ} 0 1 = cc in omega arith)
 
-decoding-half : (d : Decoded) (p : ℕ) → Half p ≡ decoding_of d → d ≡ half p
+decoding-half : (d : Decoded) (p : ℕ) → Err p ≡ decoding_of d → d ≡ half p
 unfolding decoding_of
 decoding-half (whole t) p e = absurd (let z : ◌≡◌ {A = ℕ} 0 1 = cc in omega arith)
 decoding-half (half q) p e = cc
 
-module _ {raw before after : List ℕ} {r : Decoding} (v : Decodes raw before after r) where
-  pub decoded-whole : {n : ℕ} → r ≡ Whole n → DecodedWhole raw before after n
+module _ {raw before after : List ℕ} {r : Result ℕ ℕ} (v : Decodes raw before after r) where
+  pub decoded-whole : {n : ℕ} → r ≡ Ok n → DecodedWhole raw before after n
   unfolding written
   decoded-whole {n} q = let w = decoding-whole (decode raw) n (sym q ∙ v.answer) in record { is = w.0; size = w.1; buffer = v.buffer }
 
-  pub decoded-half : {p : ℕ} → r ≡ Half p → DecodedHalf raw before after p
+  pub decoded-half : {p : ℕ} → r ≡ Err p → DecodedHalf raw before after p
   decoded-half {p} q =
       let e = decoding-half (decode raw) p (sym q ∙ v.answer) in
       record { is = e; buffer = v.buffer ∙ ap (λ (t : List ℕ). filled t before) (written-half raw e) ∙ filled_none before }
 
   -- where it fits, the front of the buffer is the string
-  pub decoded-front : {n : ℕ} → r ≡ Whole n → n ≤ length before → slice after 0 n ≡ written raw
+  pub decoded-front : {n : ℕ} → r ≡ Ok n → n ≤ length before → slice after 0 n ≡ written raw
   decoded-front {n} q h =
       let w = decoded-whole q in
       let e = w.size in

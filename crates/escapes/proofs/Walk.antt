@@ -1,4 +1,5 @@
 -- The step goes through what the bytes write.
+use Rattle.std.specs.Prelude.{None, Some, Option}
 use Prim.Native.Nat.{ℕ, zero, suc, ◌+◌, ◌*◌, ◌-◌, ◌≤◌, ◌<◌, min}
 use native.Mathlib.Nat.{min-eq_left}
 use native.Mathlib.Numerals.{add-one}
@@ -13,11 +14,9 @@ use borrow.Author.Tests.{eqb-true, eqb-false, eq-eqb, ne_eqb, ltb-true, ltb-fals
 use Rattle.text.proofs.Bytes.{both}
 use Rattle.json_text.proofs.Bytes.{split}
 use Rattle.escapes.specs.declared.Escaped.{Escaped}
-use Rattle.escapes.specs.declared.Escaped.TheVariants.{Char, Unpaired}
-use Rattle.escapes.specs.declared.HalfPair.TheVariants.{At, Nothing}
 use Rattle.escapes.specs.declared.Step.{Step}
 use Rattle.escapes.specs.declared.Step.TheVariants.{Byte, Stop, Over}
-use Rattle.escapes.specs.Escapes.{escape_of, utf8}
+use Rattle.escapes.specs.Escapes.{escape_of, utf8, escaped_char}
 use Rattle.escapes.specs.Decode.{Decoded, whole, half, join, decode_after, decode, bytes_of, half_of}
 use Rattle.escapes.specs.Parts.{char_step, escape_step, step_at}
 use Rattle.escapes.proofs.Escapes.{utf8-some, utf8-few, Writable, char-good}
@@ -25,12 +24,12 @@ use Rattle.escapes.proofs.Steps.{step-over, step-plain, step-escape}
 
 -- ---- with half a pair, and without
 
-pub no-half : (d : Decoded) → half_of d ≡ Nothing → d ≡ whole (bytes_of d)
+pub no-half : (d : Decoded) → half_of d ≡ None → d ≡ whole (bytes_of d)
 unfolding half_of bytes_of
 no-half (whole t) e = refl
 no-half (half p) e = absurd (let z : ◌≡◌ {A = ℕ} 0 1 = cc in omega arith)
 
-pub some-half : (d : Decoded) {p : ℕ} → half_of d ≡ At p → d ≡ half p
+pub some-half : (d : Decoded) {p : ℕ} → half_of d ≡ Some p → d ≡ half p
 unfolding half_of
 some-half (whole t) e = absurd (let z : ◌≡◌ {A = ℕ} 0 1 = cc in omega arith)
 some-half (half q) e = cc
@@ -41,7 +40,7 @@ unfoldable pub content : Decoded → Decoded
 content (whole t) = whole t
 content (half p) = half 0
 
-pub whole_of : (d : Decoded) → half_of d ≡ Nothing → content d ≡ whole (bytes_of d)
+pub whole_of : (d : Decoded) → half_of d ≡ None → content d ≡ whole (bytes_of d)
 unfolding content
 whole_of d e = ap content (no-half d e)
 
@@ -98,25 +97,25 @@ module _ (b : ℕ) (s : List ℕ) where
   decode-plain n = rw (ne_eqb b 0x5C n, decode_after)
 
   module _ (e : b ≡ 0x5C) where
-    pub decode-char : {c n : ℕ} → escape_of (b ∷ s) ≡ Char c n → decode (b ∷ s) ≡ join (utf8 c) (decode_after n s)
+    pub decode-char : {c n : ℕ} → escape_of (b ∷ s) ≡ escaped_char c n → decode (b ∷ s) ≡ join (utf8 c) (decode_after n s)
     unfolding decode_after
     decode-char q = rw (eq-eqb b 0x5C e, decode_after) (rw q)
 
-    pub decode-half : escape_of (b ∷ s) ≡ Unpaired → decode (b ∷ s) ≡ half 0
+    pub decode-half : escape_of (b ∷ s) ≡ None → decode (b ∷ s) ≡ half 0
     unfolding decode_after
     decode-half q = rw (eq-eqb b 0x5C e, decode_after) (rw q)
 
 -- the bytes that the first byte, or the escape that it begins, writes
 unfoldable pub piece : List ℕ → List ℕ
 piece [] = []
-piece (b ∷ s) = elim (eqb b 0x5C) [ true ↦ elim (escape_of (b ∷ s)) [ Char c n ↦ utf8 c | Unpaired ↦ [] ] | false ↦ b ∷ [] ]
+piece (b ∷ s) = elim (eqb b 0x5C) [ true ↦ elim (escape_of (b ∷ s)) [ Some t ↦ utf8 t.code | None ↦ [] ] | false ↦ b ∷ [] ]
 
 module _ (b : ℕ) (s : List ℕ) where
   piece-plain : (b ≡ 0x5C → ⊥) → piece (b ∷ s) ≡ b ∷ []
   unfolding piece
   piece-plain n = rw (ne_eqb b 0x5C n, piece)
 
-  piece-char : b ≡ 0x5C → {c n : ℕ} → escape_of (b ∷ s) ≡ Char c n → piece (b ∷ s) ≡ utf8 c
+  piece-char : b ≡ 0x5C → {c n : ℕ} → escape_of (b ∷ s) ≡ escaped_char c n → piece (b ∷ s) ≡ utf8 c
   unfolding piece
   piece-char e q = rw (eq-eqb b 0x5C e, piece) (rw q)
 
@@ -184,15 +183,15 @@ module _ (s : List ℕ) (i o : ℕ) (v : Place s i o) where
         }
 
     module _ (b : get_or s i 0 ≡ 0x5C) where
-      after-half : escape_of (drop i s) ≡ Unpaired → After s i o Stop
+      after-half : escape_of (drop i s) ≡ None → After s i o Stop
       unfolding tail content cut
       after-half q = ap (λ (l : List ℕ). cut o (content (decode l))) first ∙ ap (λ (d : Decoded). cut o (content d)) (decode-half (get_or s i 0) (drop (i + 1) s) b (ap escape_of (sym first) ∙ q))
 
-      module _ {c n : ℕ} (q : escape_of (drop i s) ≡ Char c n) where
+      module _ {c n : ℕ} (q : escape_of (drop i s) ≡ escaped_char c n) where
         next : ℕ
         next = min (i + 1 + n) (length s)
 
-        here : escape_of (get_or s i 0 ∷ drop (i + 1) s) ≡ Char c n
+        here : escape_of (get_or s i 0 ∷ drop (i + 1) s) ≡ escaped_char c n
         here = ap escape_of (sym first) ∙ q
 
         clipped : drop (i + 1 + n) s ≡ drop next s
@@ -253,10 +252,10 @@ module _ (s : List ℕ) (i o : ℕ) (v : Place s i o) where
             (λ e. rw (e, char_step) (after_more (ltb-true _ _ e)))
             (λ e. rw (e, char_step) (rw (lt-ltb o (length (utf8 c)) fits) (after_last (ltb-false _ _ e))))
 
-      after-escape : (x : Escaped) → escape_of (drop i s) ≡ x → After s i o (escape_step x i o (length s))
+      after-escape : (x : Option Escaped) → escape_of (drop i s) ≡ x → After s i o (escape_step x i o (length s))
       unfolding escape_step next
-      after-escape (Char c n) q = after-char q
-      after-escape Unpaired q = after-half q
+      after-escape (Some t) q = after-char q
+      after-escape None q = after-half q
 
   pub after : After s i o (step_at s i o)
   after = split (length s) i

@@ -11,8 +11,7 @@ use Rattle.text.specs.Scalars.{Scalar, Encodes, one, two, three, four}
 use Rattle.text.proofs.Bytes.{both}
 use Rattle.json_text.specs.Bytes.{byte}
 use Rattle.json_text.specs.Strings.{is_plain}
-use Rattle.escapes.specs.declared.Escaped.TheVariants.{Char}
-use Rattle.escapes.specs.Escapes.{hex_digit, code_unit, is_high, is_low, pair_of, short_of, unit_escape, escape_of, utf8}
+use Rattle.escapes.specs.Escapes.{hex_digit, code_unit, is_high, is_low, pair_of, short_of, unit_escape, escape_of, utf8, escaped_char}
 use Rattle.escapes.specs.Decode.{Decoded, whole, half, join, decode_after, decode}
 use Rattle.escapes.specs.Writes.{Hex, decimal, upper, lower, Hex4, digits, Short, quotation-mark, reverse-solidus, solidus, backspace, form_feed, line_feed, carriage_return, tab, Writes, unescaped, short, unit, pair, WritesAll, none, more, in_utf8}
 use Rattle.escapes.proofs.Escapes.{digit_09, digit_upper_af, digit_lower_af, utf8_1, utf8_2, utf8_3, utf8_4, high_range, low_range, high_yes, low_yes, escape-unit, unit-high, unit-char, pair_is}
@@ -83,14 +82,14 @@ unfolding decode_after
 passed [] t = lead-none (decode t)
 passed (b ∷ p) t = ap (join []) (passed p t) ∙ join-lead [] (length p) [] (decode t)
 
-escaped : (p t : List ℕ) {c : ℕ} → escape_of (0x5C ∷ (p ++ t)) ≡ Char c (length p) → decode (0x5C ∷ (p ++ t)) ≡ lead (suc (length p)) (utf8 c) (decode t)
+escaped : (p t : List ℕ) {c : ℕ} → escape_of (0x5C ∷ (p ++ t)) ≡ escaped_char c (length p) → decode (0x5C ∷ (p ++ t)) ≡ lead (suc (length p)) (utf8 c) (decode t)
 escaped p t {c} e =
     decode-char 0x5C (p ++ t) refl e
     ∙ ap (join (utf8 c)) (passed p t)
     ∙ join-lead (utf8 c) (length p) [] (decode t)
     ∙ ap (λ (x : List ℕ). lead (suc (length p)) x (decode t)) (append-nil (utf8 c))
 
-short_escape : {b c : ℕ} (t : List ℕ) → Short b c → escape_of (0x5C ∷ b ∷ t) ≡ Char c 1
+short_escape : {b c : ℕ} (t : List ℕ) → Short b c → escape_of (0x5C ∷ b ∷ t) ≡ escaped_char c 1
 unfolding escape_of byte short_of
 short_escape t quotation-mark = refl
 short_escape t reverse-solidus = refl
@@ -125,7 +124,7 @@ second : (s : List ℕ) → byte (0x5C ∷ 0x75 ∷ s) 1 ≡ 0x75
 unfolding byte
 second s = refl
 
-unit-escape : {c : ℕ} {d : List ℕ} (t : List ℕ) → Hex4 c d → Scalar c → escape_of (0x5C ∷ 0x75 ∷ (d ++ t)) ≡ Char c 5
+unit-escape : {c : ℕ} {d : List ℕ} (t : List ℕ) → Hex4 c d → Scalar c → escape_of (0x5C ∷ 0x75 ∷ (d ++ t)) ≡ escaped_char c 5
 unit-escape {c} t (digits p q r s x y z w i j k l e) n =
     sym (unit-char _ c (high_no c n.plain) (low_no c n.plain) ∙ ap (unit_escape _) (sym (unit_2 i j k l e t)) ∙ escape-unit _ (second _))
 
@@ -137,7 +136,7 @@ seventh : (a b c d : ℕ) (s : List ℕ) → byte (0x5C ∷ 0x75 ∷ a ∷ b ∷
 unfolding byte
 seventh a b c d s = refl
 
-pair-escape : {d e : List ℕ} (h l : ℕ) (t : List ℕ) → h < 1024 → l < 1024 → Hex4 (0xD800 + h) d → Hex4 (0xDC00 + l) e → escape_of (0x5C ∷ 0x75 ∷ (d ++ (0x5C ∷ 0x75 ∷ (e ++ t)))) ≡ Char (0x10000 + (1024 * h + l)) 11
+pair-escape : {d e : List ℕ} (h l : ℕ) (t : List ℕ) → h < 1024 → l < 1024 → Hex4 (0xD800 + h) d → Hex4 (0xDC00 + l) e → escape_of (0x5C ∷ 0x75 ∷ (d ++ (0x5C ∷ 0x75 ∷ (e ++ t)))) ≡ escaped_char (0x10000 + (1024 * h + l)) 11
 unfolding pair_of
 pair-escape h l t hh hl (digits a1 a2 a3 a4 x y z w i j k m e) (digits b1 b2 b3 b4 x2 y2 z2 w2 i2 j2 k2 m2 e2) =
     let s : List ℕ = 0x5C ∷ 0x75 ∷ a1 ∷ a2 ∷ a3 ∷ a4 ∷ 0x5C ∷ 0x75 ∷ b1 ∷ b2 ∷ b3 ∷ b4 ∷ t in
@@ -145,7 +144,7 @@ pair-escape h l t hh hl (digits a1 a2 a3 a4 x y z w i j k m e) (digits b1 b2 b3 
     let u2 : code_unit s 2 ≡ 0xD800 + h = unit_2 i j k m e (0x5C ∷ 0x75 ∷ b1 ∷ b2 ∷ b3 ∷ b4 ∷ t) in
     let v : pair_of (0xD800 + h) (code_unit s 8) ≡ 0x10000 + (1024 * h + l) = omega arith in
     sym (
-    ap (λ (c : ℕ). Char c 11) (sym v)
+    ap (λ (c : ℕ). escaped_char c 11) (sym v)
     ∙ pair_is s (0xD800 + h) (sixth a1 a2 a3 a4 _) (seventh a1 a2 a3 a4 _) (ap is_low u8 ∙ low_yes (0xDC00 + l) (omega arith) (omega arith))
     ∙ unit-high s (0xD800 + h) (high_yes (0xD800 + h) (omega arith) (omega arith))
     ∙ ap (unit_escape s) (sym u2)
@@ -158,12 +157,12 @@ hex-four (digits a b c d x y z w i j k l e) = refl
 
 pair-way : {c : ℕ} {d e : List ℕ} (t : List ℕ) (h l : ℕ) → h < 1024 → l < 1024 → Hex4 (0xD800 + h) d → Hex4 (0xDC00 + l) e → 0x10000 + (1024 * h + l) ≡ c → decode ((0x5C ∷ 0x75 ∷ (d ++ (0x5C ∷ 0x75 ∷ e))) ++ t) ≡ lead (length (0x5C ∷ 0x75 ∷ (d ++ (0x5C ∷ 0x75 ∷ e)))) (utf8 c) (decode t)
 pair-way {c} t h l hh hl (digits a1 a2 a3 a4 x y z w i j k m e) (digits b1 b2 b3 b4 x2 y2 z2 w2 i2 j2 k2 m2 e2) q =
-    escaped (0x75 ∷ a1 ∷ a2 ∷ a3 ∷ a4 ∷ 0x5C ∷ 0x75 ∷ b1 ∷ b2 ∷ b3 ∷ b4 ∷ []) t (pair-escape h l t hh hl (digits a1 a2 a3 a4 x y z w i j k m e) (digits b1 b2 b3 b4 x2 y2 z2 w2 i2 j2 k2 m2 e2) ∙ ap (λ (n : ℕ). Char n 11) q)
+    escaped (0x75 ∷ a1 ∷ a2 ∷ a3 ∷ a4 ∷ 0x5C ∷ 0x75 ∷ b1 ∷ b2 ∷ b3 ∷ b4 ∷ []) t (pair-escape h l t hh hl (digits a1 a2 a3 a4 x y z w i j k m e) (digits b1 b2 b3 b4 x2 y2 z2 w2 i2 j2 k2 m2 e2) ∙ ap (λ (n : ℕ). escaped_char n 11) q)
 
 pub one_way : {c : ℕ} {w : List ℕ} (t : List ℕ) → Scalar c → Writes c w → decode (w ++ t) ≡ lead (length w) (utf8 c) (decode t)
 one_way {c} {w} t n (unescaped e h p q) = pass w t (encoding-plain c e q) ∙ ap (λ (x : List ℕ). lead (length w) x (decode t)) (encoding-one c e)
 one_way t n (short {b} s) = escaped (b ∷ []) t (short_escape t s)
-one_way {c} t n (unit {d} h) = escaped (0x75 ∷ d) t (unit-escape t h n ∙ ap (Char c) (sym (ap suc (hex-four h))))
+one_way {c} t n (unit {d} h) = escaped (0x75 ∷ d) t (unit-escape t h n ∙ ap (escaped_char c) (sym (ap suc (hex-four h))))
 one_way t n (pair h l hh hl f g q) = pair-way t h l hh hl f g q
 
 pub every_way : {cs w : List ℕ} → WritesAll cs w → decode w ≡ whole (in_utf8 cs)

@@ -1,12 +1,7 @@
 -- Paper 02, K4: "decoded by RFC 8259 before any rule is applied, surrogate pairs included": the string that stands between two quotes of a JSON text, in UTF-8.
-use Rattle.std.specs.Prelude.{ℕ, zero, suc, ◌≡◌, List, [], ◌∷◌, ◌++◌, Bool, true, false, cond, length, drop, eqb, leb}
+use Rattle.std.specs.Prelude.{ℕ, zero, suc, ◌≡◌, List, [], ◌∷◌, ◌++◌, Bool, true, false, cond, length, drop, eqb, leb, None, Option, Some, Err, Ok, Result}
 use Rattle.json_text.specs.Bytes.{byte}
 use Rattle.text.specs.Bytes.{eq_bytes}
-use Rattle.escapes.specs.declared.Escaped.TheVariants.{Char, Unpaired}
-use Rattle.escapes.specs.declared.HalfPair.{HalfPair}
-use Rattle.escapes.specs.declared.HalfPair.TheVariants.{At, Nothing}
-use Rattle.escapes.specs.declared.Decoding.{Decoding}
-use Rattle.escapes.specs.declared.Decoding.TheVariants.{Whole, Half}
 use Rattle.escapes.specs.Escapes.{escape_of, utf8}
 
 -- The string's bytes. Or "half a surrogate pair in such a string is 25, told at its backslash": the index of that backslash, the first such one.
@@ -25,7 +20,7 @@ unfoldable pub decode_after : ℕ → List ℕ → Decoded
 decode_after n [] = whole []
 decode_after (suc n) (b ∷ s) = join [] (decode_after n s)
 decode_after zero (b ∷ s) = elim (eqb b 0x5C) [
-  | true ↦ elim (escape_of (b ∷ s)) [ Char c n ↦ join (utf8 c) (decode_after n s) | Unpaired ↦ half 0 ]
+  | true ↦ elim (escape_of (b ∷ s)) [ Some t ↦ join (utf8 t.code) (decode_after t.len s) | None ↦ half 0 ]
   | false ↦ join (b ∷ []) (decode_after 0 s)
 ]
 
@@ -42,9 +37,9 @@ unfoldable pub written : List ℕ → List ℕ
 written r = bytes_of (decode r)
 
 -- the first half pair
-unfoldable pub half_of : Decoded → HalfPair
-half_of (whole t) = Nothing
-half_of (half p) = At p
+unfoldable pub half_of : Decoded → Option ℕ
+half_of (whole t) = None
+half_of (half p) = Some p
 
 -- ---- what is asked of a string
 
@@ -61,16 +56,16 @@ alike (half p) d = false
 -- ---- a string decoded into a buffer
 
 -- the string's length, or the first half pair
-unfoldable pub decoding_of : Decoded → Decoding
-decoding_of (whole t) = Whole (length t)
-decoding_of (half p) = Half p
+unfoldable pub decoding_of : Decoded → Result ℕ ℕ
+decoding_of (whole t) = Ok (length t)
+decoding_of (half p) = Err p
 
 -- a buffer after bytes were written to its front: as it was where they do not fit
 unfoldable pub filled : List ℕ → List ℕ → List ℕ
 filled t out = cond (leb (length t) (length out)) (t ++ drop (length t) out) out
 
 -- what is answered, and the buffer: with half a pair it is as it was
-pub record Decodes (raw before after : List ℕ) (r : Decoding) : Type 0 where
+pub record Decodes (raw before after : List ℕ) (r : Result ℕ ℕ) : Type 0 where
   pub answer : r ≡ decoding_of (decode raw)
   pub buffer : after ≡ filled (written raw) before
 
@@ -78,4 +73,4 @@ pub record Decodes (raw before after : List ℕ) (r : Decoding) : Type 0 where
 
 pub record HalfAt (r : List ℕ) (p : ℕ) : Type 0 where
   pub backslash : byte r p ≡ 0x5C
-  pub escape : escape_of (drop p r) ≡ Unpaired
+  pub escape : escape_of (drop p r) ≡ None

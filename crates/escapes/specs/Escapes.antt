@@ -1,9 +1,8 @@
 -- What the escapes of JSON's strings write (RFC 8259, 7), and a character's bytes (RFC 3629, 3).
-use Rattle.std.specs.Prelude.{ℕ, ◌+◌, ◌*◌, ◌-◌, ◌/◌, ◌%◌, List, [], ◌∷◌, Bool, true, false, ◌&&◌, cond, eqb, ltb}
+use Rattle.std.specs.Prelude.{ℕ, ◌+◌, ◌*◌, ◌-◌, ◌/◌, ◌%◌, List, [], ◌∷◌, Bool, true, false, ◌&&◌, cond, eqb, ltb, Option, Some, None}
 use Rattle.abnf.specs.Accepts.{in_range}
 use Rattle.json_text.specs.Bytes.{byte}
 use Rattle.escapes.specs.declared.Escaped.{Escaped}
-use Rattle.escapes.specs.declared.Escaped.TheVariants.{Char, Unpaired}
 
 -- "The hexadecimal letters A through F can be uppercase or lowercase": a digit's value. No other byte stands there in JSON
 unfoldable pub hex_digit : ℕ → ℕ
@@ -38,16 +37,20 @@ short_of b =
 -- What the backslash writes that the bytes begin with: a character, with the number of bytes after the backslash that write it. Or it is half a surrogate
 -- pair: a high surrogate that is not directly followed by an escaped low one, or a low one alone.
 
+-- the character c, written by n bytes
+abbrev pub escaped_char : ℕ → ℕ → Option Escaped
+escaped_char c n = Some (record { code = c; len = n })
+
 -- after \u and a high surrogate h: \u and a low one
-unfoldable pub pair_after : List ℕ → ℕ → Escaped
-pair_after s h = elim (eqb (byte s 6) 0x5C && (eqb (byte s 7) 0x75 && is_low (code_unit s 8))) [ true ↦ Char (pair_of h (code_unit s 8)) 11 | false ↦ Unpaired ]
+unfoldable pub pair_after : List ℕ → ℕ → Option Escaped
+pair_after s h = elim (eqb (byte s 6) 0x5C && (eqb (byte s 7) 0x75 && is_low (code_unit s 8))) [ true ↦ escaped_char (pair_of h (code_unit s 8)) 11 | false ↦ None ]
 
 -- \u with the code unit u
-unfoldable pub unit_escape : List ℕ → ℕ → Escaped
-unit_escape s u = elim (is_high u) [ true ↦ pair_after s u | false ↦ elim (is_low u) [ true ↦ Unpaired | false ↦ Char u 5 ] ]
+unfoldable pub unit_escape : List ℕ → ℕ → Option Escaped
+unit_escape s u = elim (is_high u) [ true ↦ pair_after s u | false ↦ elim (is_low u) [ true ↦ None | false ↦ escaped_char u 5 ] ]
 
-unfoldable pub escape_of : List ℕ → Escaped
-escape_of s = elim (eqb (byte s 1) 0x75) [ true ↦ unit_escape s (code_unit s 2) | false ↦ Char (short_of (byte s 1)) 1 ]
+unfoldable pub escape_of : List ℕ → Option Escaped
+escape_of s = elim (eqb (byte s 1) 0x75) [ true ↦ unit_escape s (code_unit s 2) | false ↦ escaped_char (short_of (byte s 1)) 1 ]
 
 -- a character's bytes: RFC 3629's table, a row each
 unfoldable pub utf8 : ℕ → List ℕ

@@ -1,8 +1,7 @@
 -- What only private functions' contracts cite: a character's bytes in an array, one byte of a string after another, and copies.
-use Rattle.std.specs.Prelude.{ℕ, ◌+◌, ◌-◌, min, ◌≡◌, List, ◌++◌, true, false, length, drop, get_or, replicate, eqb, ltb}
+use Rattle.std.specs.Prelude.{ℕ, ◌+◌, ◌-◌, min, ◌≡◌, List, ◌++◌, true, false, length, drop, get_or, replicate, eqb, ltb, Option, Some, None}
 use Rattle.json_text.specs.Bytes.{byte}
 use Rattle.escapes.specs.declared.Escaped.{Escaped}
-use Rattle.escapes.specs.declared.Escaped.TheVariants.{Char, Unpaired}
 use Rattle.escapes.specs.declared.Step.{Step}
 use Rattle.escapes.specs.declared.Step.TheVariants.{Byte, Stop, Over}
 use Rattle.escapes.specs.declared.Coded.{Coded}
@@ -21,9 +20,9 @@ char_step c o i e = elim (ltb (o + 1) (length (utf8 c))) [
 ]
 
 -- an escape at i, in a text of so many bytes
-unfoldable pub escape_step : Escaped → ℕ → ℕ → ℕ → Step
-escape_step (Char c n) i o len = char_step c o i (min (i + 1 + n) len)
-escape_step Unpaired i o len = Stop
+unfoldable pub escape_step : Option Escaped → ℕ → ℕ → ℕ → Step
+escape_step (Some t) i o len = char_step t.code o i (min (i + 1 + t.len) len)
+escape_step None i o len = Stop
 
 -- the next byte that s writes from i on, of whose character o are past; and where the one after it is
 unfoldable pub step_at : List ℕ → ℕ → ℕ → Step

@@ -1,37 +1,23 @@
 // JSON's strings decoded (RFC 8259, 7; paper 02, K4). `raw` is what stands between a string's quotes.
 #![tactic(auto)]
 
-ghost use Rattle.std.specs.Prelude.{◌≡◌, true, ◌&&◌, ◌++◌, ◌+◌, ◌≤◌, min, length, drop};
+ghost use Rattle.std.specs.Prelude.{◌≡◌, true, None, ◌&&◌, ◌++◌, ◌+◌, ◌≤◌, min, length, drop};
 ghost use Rattle.text.specs.Bytes.{less_bytes};
 ghost use Rattle.json_text.specs.Strings.{is_plain};
-ghost use Rattle.escapes.specs.declared.HalfPair.TheVariants.{Nothing};
 ghost use Rattle.escapes.specs.Escapes.{hex_digit, code_unit, is_high, is_low, short_of, pair_after, escape_of};
 ghost use Rattle.escapes.specs.Decode.{decode, written, half_of, is_this, alike, Decodes};
 ghost use Rattle.escapes.specs.Parts.{coded_of, char_step, step_at, Copied};
 
-// The first half of a surrogate pair, by its backslash; or none.
+// A character that a backslash writes, and how many bytes after the backslash write it.
 #[derive(Clone, Copy)]
-pub enum HalfPair {
-    At(usize),
-    Nothing,
-}
-
-// A string decoded: how many bytes it has, or its first half of a surrogate pair, by its backslash.
-#[derive(Clone, Copy)]
-pub enum Decoding {
-    Whole(usize),
-    Half(usize),
-}
-
-// What a backslash writes: a character, and how many bytes after the backslash write it; or half a pair.
-#[derive(Clone, Copy)]
-enum Escaped {
-    Char(u32, usize),
-    Unpaired,
+struct Escaped {
+    code: u32,
+    len: usize,
 }
 
 // A byte that a string writes, with the place of the next one: an index in `raw`, and how many bytes of the character there are past. Or half a pair stands
 // there, or nothing more.
+// Kept by hand: three answers, no two of them alike; `Result<Option<(u8, usize, usize)>, _>` says the same in two layers, which each of the five walks would open.
 #[derive(Clone, Copy)]
 enum Step {
     Byte(u8, usize, usize),
@@ -40,6 +26,7 @@ enum Step {
 }
 
 // A character's bytes: the first `n`, the others are zero.
+// Kept by hand: the project has no heap, and a character has at most four bytes.
 #[derive(Clone, Copy)]
 struct Coded {
     n: usize,
@@ -47,13 +34,14 @@ struct Coded {
 }
 
 // A hexadecimal digit's value.
+#[tactic(auto, unfolding(crate::specs::Escapes::hex_digit, abnf::specs::Accepts::in_range))]
 fn hex_digit(b: u16) -> u32
     ensures { result ≡ hex_digit b }
 {
     match b {
-        48..=57 => b as u32 - 48,
-        65..=70 => b as u32 - 55,
-        97..=102 => b as u32 - 87,
+        48..=57 => u32::from(b) - 48,
+        65..=70 => u32::from(b) - 55,
+        97..=102 => u32::from(b) - 87,
         _ => 0,
     }
 }
@@ -71,6 +59,7 @@ fn code_unit(s: &[u8], i: usize) -> u32
 }
 
 // The character of a backslash and one byte.
+#[tactic(auto, unfolding(crate::specs::Escapes::short_of))]
 fn short(b: u16) -> u32
     ensures { result ≡ short_of b }
 {
@@ -87,53 +76,61 @@ fn short(b: u16) -> u32
 }
 
 // Whether a code unit is a high surrogate.
+#[tactic(auto, unfolding(crate::specs::Escapes::is_high, abnf::specs::Accepts::in_range))]
 fn is_high(u: u32) -> bool
     ensures { result ≡ is_high u }
 {
-    if 0xD800 <= u { u <= 0xDBFF } else { false }
+    matches!(u, 0xD800..=0xDBFF)
 }
 
 // Whether a code unit is a low surrogate.
+#[tactic(auto, unfolding(crate::specs::Escapes::is_low, abnf::specs::Accepts::in_range))]
 fn is_low(u: u32) -> bool
     ensures { result ≡ is_low u }
 {
-    if 0xDC00 <= u { u <= 0xDFFF } else { false }
+    matches!(u, 0xDC00..=0xDFFF)
 }
 
-// What a high surrogate writes, with what follows its six bytes.
-fn pair_after(s: &[u8], h: u32) -> Escaped
+// What a high surrogate writes, with what follows its six bytes; none where it is half a pair.
+fn pair_after(s: &[u8], h: u32) -> Option<Escaped>
     requires { is_high h ≡ true }
     ensures { result ≡ pair_after s.now h }
 {
     if json_text::peek(s, 6) != 92 {
-        return Escaped::Unpaired;
+        return None;
     }
     if json_text::peek(s, 7) != 117 {
-        return Escaped::Unpaired;
+        return None;
     }
     let l = code_unit(s, 8);
     if !is_low(l) {
-        return Escaped::Unpaired;
+        return None;
     }
-    Escaped::Char(0x10000 + (1024 * (h - 0xD800) + (l - 0xDC00)), 11)
+    Some(Escaped {
+        code: 0x10000 + (1024 * (h - 0xD800) + (l - 0xDC00)),
+        len: 11,
+    })
 }
 
-// What the backslash writes that the bytes begin with.
-fn escape_of(s: &[u8]) -> Escaped
+// What the backslash writes that the bytes begin with; none where it is half a surrogate pair.
+fn escape_of(s: &[u8]) -> Option<Escaped>
     ensures { result ≡ escape_of s.now }
 {
     let b = json_text::peek(s, 1);
     if b != 117 {
-        return Escaped::Char(short(b), 1);
+        return Some(Escaped {
+            code: short(b),
+            len: 1,
+        });
     }
     let u = code_unit(s, 2);
     if is_high(u) {
         return pair_after(s, u);
     }
     if is_low(u) {
-        return Escaped::Unpaired;
+        return None;
     }
-    Escaped::Char(u, 5)
+    Some(Escaped { code: u, len: 5 })
 }
 
 // A character's bytes.
@@ -180,9 +177,7 @@ fn char_step(c: u32, o: usize, i: usize, e: usize) -> Step
     requires { c ≤ 0x10FFFF }
     ensures { result ≡ char_step c o i e }
 {
-    let w = encode(c);
-    let n = w.n;
-    let bytes = w.bytes;
+    let Coded { n, bytes } = encode(c);
     if o >= n {
         return Step::Over;
     }
@@ -198,10 +193,7 @@ fn past(i: usize, n: usize, len: usize) -> usize
     requires { i + 1 ≤ len }
     ensures { result ≡ min (i + 1 + n) len }
 {
-    if n < len - i {
-        return i + 1 + n;
-    }
-    len
+    if n < len - i { i + 1 + n } else { len }
 }
 
 // The next byte that the text writes from `i` on, of whose character `o` bytes are past.
@@ -212,12 +204,12 @@ fn next_byte(s: &[u8], i: usize, o: usize) -> Step
         return Step::Over;
     }
     let b = s[i];
-    if b != 92 {
+    if b != b'\\' {
         return Step::Byte(b, i + 1, 0);
     }
     match escape_of(&s[i..]) {
-        Escaped::Unpaired => Step::Stop,
-        Escaped::Char(c, n) => char_step(c, o, i, past(i, n, s.len())),
+        None => Step::Stop,
+        Some(Escaped { code, len }) => char_step(code, o, i, past(i, len, s.len())),
     }
 }
 
@@ -225,32 +217,28 @@ fn next_byte(s: &[u8], i: usize, o: usize) -> Step
 pub fn is_plain(raw: &[u8]) -> bool
     ensures { result ≡ is_plain raw.now }
 {
-    let mut i = 0;
-    while i < raw.len() {
-        if raw[i] == 92 {
-            return false;
-        }
-        i += 1;
-    }
-    true
+    !raw.contains(&b'\\')
 }
 
-// The first half of a surrogate pair.
-pub fn half(raw: &[u8]) -> HalfPair
+// Kept by hand: `half`, `count`, `write_alike` and `write_before` loop. An escape moves the index by a length of its own, as no range does; and an iterator over the
+// bytes would answer None both at the end and at half a pair, which differ here: a string with half a pair is alike to none, not even to itself.
+
+// The first half of a surrogate pair, by its backslash.
+pub fn half(raw: &[u8]) -> Option<usize>
     ensures { result ≡ half_of (decode raw.now) }
 {
     let mut at = 0;
     while at < raw.len() {
-        if raw[at] == 92 {
+        if raw[at] == b'\\' {
             match escape_of(&raw[at..]) {
-                Escaped::Unpaired => return HalfPair::At(at),
-                Escaped::Char(_, n) => at = past(at, n, raw.len()),
+                None => return Some(at),
+                Some(Escaped { len, .. }) => at = past(at, len, raw.len()),
             }
         } else {
             at += 1;
         }
     }
-    HalfPair::Nothing
+    None
 }
 
 // Whether the bytes write just these, byte by byte.
@@ -259,24 +247,19 @@ fn writes(raw: &[u8], name: &[u8]) -> bool
 {
     let mut i = 0;
     let mut o = 0;
-    let mut j = 0;
-    loop {
+    for c in name {
         match next_byte(raw, i, o) {
-            Step::Stop => return false,
-            Step::Over => return j == name.len(),
             Step::Byte(b, p, q) => {
-                if j >= name.len() {
-                    return false;
-                }
-                if b != name[j] {
+                if b != *c {
                     return false;
                 }
                 i = p;
                 o = q;
-                j += 1;
             }
+            Step::Stop | Step::Over => return false,
         }
     }
+    matches!(next_byte(raw, i, o), Step::Over)
 }
 
 // Whether the bytes write just these.
@@ -284,9 +267,10 @@ pub fn same(raw: &[u8], name: &[u8]) -> bool
     ensures { result ≡ is_this name.now (decode raw.now) }
 {
     if is_plain(raw) {
-        return text::same(raw, name);
+        text::same(raw, name)
+    } else {
+        writes(raw, name)
     }
-    writes(raw, name)
 }
 
 // Whether both write the same, byte by byte.
@@ -298,38 +282,32 @@ fn write_alike(a: &[u8], b: &[u8]) -> bool
     let mut j = 0;
     let mut p = 0;
     loop {
-        match next_byte(a, i, o) {
-            Step::Stop => return false,
-            Step::Over => match next_byte(b, j, p) {
-                Step::Stop => return false,
-                Step::Over => return true,
-                Step::Byte(_, _, _) => return false,
-            },
-            Step::Byte(x, i2, o2) => match next_byte(b, j, p) {
-                Step::Stop => return false,
-                Step::Over => return false,
-                Step::Byte(y, j2, p2) => {
-                    if x != y {
-                        return false;
-                    }
-                    i = i2;
-                    o = o2;
-                    j = j2;
-                    p = p2;
+        match (next_byte(a, i, o), next_byte(b, j, p)) {
+            (Step::Byte(x, i2, o2), Step::Byte(y, j2, p2)) => {
+                if x != y {
+                    return false;
                 }
-            },
+                i = i2;
+                o = o2;
+                j = j2;
+                p = p2;
+            }
+            (Step::Over, Step::Over) => return true,
+            _ => return false,
         }
     }
 }
 
 // Whether both write the same.
+// Kept by hand: no `==`, since the bytes that write it differ, and a string with half a pair is not the same as itself.
 pub fn same_both(a: &[u8], b: &[u8]) -> bool
     ensures { result ≡ alike (decode a.now) (decode b.now) }
 {
     if is_plain(a) {
-        return same(b, a);
+        same(b, a)
+    } else {
+        write_alike(a, b)
     }
-    write_alike(a, b)
 }
 
 // How many bytes are written, one by one; 0 with half a pair.
@@ -352,89 +330,77 @@ fn count(raw: &[u8]) -> usize
     }
 }
 
+// Writes what the bytes write to the front of a buffer.
+fn put_written(raw: &[u8], out: &mut [u8])
+    requires { (half_of (decode raw.now) ≡ None) × (length (written raw.now) ≤ length out.old) }
+    ensures { out.new ≡ written raw.now ++ drop (length (written raw.now)) out.old }
+{
+    let mut i = 0;
+    let mut o = 0;
+    for slot in out.iter_mut() {
+        match next_byte(raw, i, o) {
+            Step::Byte(b, p, q) => {
+                *slot = b;
+                i = p;
+                o = q;
+            }
+            Step::Stop | Step::Over => return,
+        }
+    }
+}
+
 // Writes the bytes to the front of a buffer.
 fn put(t: &[u8], out: &mut [u8])
     requires { length t.now ≤ length out.old }
     ensures { out.new ≡ t.now ++ drop (length t.now) out.old }
 {
-    let mut i = 0;
-    while i < t.len() {
-        out[i] = t[i];
-        i += 1;
-    }
-}
-
-// Writes what the bytes write to the front of a buffer.
-fn put_written(raw: &[u8], out: &mut [u8])
-    requires { (half_of (decode raw.now) ≡ Nothing) × (length (written raw.now) ≤ length out.old) }
-    ensures { out.new ≡ written raw.now ++ drop (length (written raw.now)) out.old }
-{
-    let mut i = 0;
-    let mut o = 0;
-    let mut j = 0;
-    loop {
-        match next_byte(raw, i, o) {
-            Step::Stop => return,
-            Step::Over => return,
-            Step::Byte(b, p, q) => {
-                out[j] = b;
-                i = p;
-                o = q;
-                j += 1;
-            }
-        }
-    }
+    out[..t.len()].copy_from_slice(t);
 }
 
 // Copies bytes to the front of a buffer if they fit; how many they are.
 fn copy(t: &[u8], out: &mut [u8]) -> usize
     ensures { Copied t.now out.old out.new result }
 {
-    if t.len() > out.len() {
-        return t.len();
+    if t.len() <= out.len() {
+        put(t, out);
     }
-    put(t, out);
     t.len()
 }
 
 // Copies what the bytes write to the front of a buffer if it fits; how many bytes that are.
 fn copy_written(raw: &[u8], out: &mut [u8]) -> usize
-    requires { half_of (decode raw.now) ≡ Nothing }
+    requires { half_of (decode raw.now) ≡ None }
     ensures { Copied (written raw.now) out.old out.new result }
 {
     let n = count(raw);
-    if n > out.len() {
-        return n;
+    if n <= out.len() {
+        put_written(raw, out);
     }
-    put_written(raw, out);
     n
 }
 
-// The string that the bytes write, put at the front of a buffer if it fits.
-pub fn decode(raw: &[u8], out: &mut [u8]) -> Decoding
+// The string that the bytes write, put at the front of a buffer if it fits: how many bytes it has, or its first half of a surrogate pair, by its backslash.
+pub fn decode(raw: &[u8], out: &mut [u8]) -> Result<usize, usize>
     ensures { Decodes raw.now out.old out.new result }
 {
     if is_plain(raw) {
-        return Decoding::Whole(copy(raw, out));
+        return Ok(copy(raw, out));
     }
     match half(raw) {
-        HalfPair::At(p) => Decoding::Half(p),
-        HalfPair::Nothing => Decoding::Whole(copy_written(raw, out)),
+        Some(p) => Err(p),
+        None => Ok(copy_written(raw, out)),
     }
 }
 
 fn are_plain(a: &[u8], b: &[u8]) -> bool
     ensures { result ≡ (is_plain a.now && is_plain b.now) }
 {
-    if is_plain(a) {
-        return is_plain(b);
-    }
-    false
+    is_plain(a) && is_plain(b)
 }
 
 // Whether what `a` writes stands before what `b` writes in byte order, where neither has half a pair.
 fn write_before(a: &[u8], b: &[u8]) -> bool
-    requires { (half_of (decode a.now) ≡ Nothing) × (half_of (decode b.now) ≡ Nothing) }
+    requires { (half_of (decode a.now) ≡ None) × (half_of (decode b.now) ≡ None) }
     ensures { result ≡ less_bytes (written a.now) (written b.now) }
 {
     let mut i = 0;
@@ -442,22 +408,18 @@ fn write_before(a: &[u8], b: &[u8]) -> bool
     let mut j = 0;
     let mut p = 0;
     loop {
-        match next_byte(b, j, p) {
-            Step::Stop => return false,
-            Step::Over => return false,
-            Step::Byte(y, j2, p2) => match next_byte(a, i, o) {
-                Step::Stop => return false,
-                Step::Over => return true,
-                Step::Byte(x, i2, o2) => {
-                    if x != y {
-                        return x < y;
-                    }
-                    i = i2;
-                    o = o2;
-                    j = j2;
-                    p = p2;
+        match (next_byte(a, i, o), next_byte(b, j, p)) {
+            (Step::Byte(x, i2, o2), Step::Byte(y, j2, p2)) => {
+                if x != y {
+                    return x < y;
                 }
-            },
+                i = i2;
+                o = o2;
+                j = j2;
+                p = p2;
+            }
+            (Step::Over, Step::Byte(_, _, _)) => return true,
+            _ => return false,
         }
     }
 }
@@ -470,10 +432,10 @@ pub fn precedes(a: &[u8], b: &[u8]) -> bool
         return text::precedes(a, b);
     }
     match half(b) {
-        HalfPair::At(_) => false,
-        HalfPair::Nothing => match half(a) {
-            HalfPair::At(_) => count(b) > 0,
-            HalfPair::Nothing => write_before(a, b),
+        Some(_) => false,
+        None => match half(a) {
+            Some(_) => count(b) > 0,
+            None => write_before(a, b),
         },
     }
 }

@@ -1,216 +1,217 @@
 -- The least of faults does not depend on the order in which they are found.
-use Prim.Native.Nat.{ℕ, ◌≤◌, ◌<◌}
+use Prim.Native.Nat.{ℕ, ◌<◌}
 use native.Mathlib.Omega.{arith}
+use Rattle.std.specs.Prelude.{Option, None, Some, cond, nat_lt, not, ◌&&◌, ◌||◌, pos, ℤ, get_or, nat_eq}
+use Rattle.std.specs.Option.{option_or}
+use Rattle.std.specs.Ordering.{ord_min, is_lt, nat_cmp, ordering_then}
 use mathlib.Core.Path.{◌≡◌, refl, sym, ap, ◌∙◌}
 use mathlib.Core.List.{List, [], ◌∷◌, ◌++◌}
-use mathlib.Core.Bool.{Bool, true, false, false≢true}
+use mathlib.Core.Bool.{Bool, true, false}
 use lib.Dec.{eqb, ltb, leb}
-use borrow.Author.Tests.{ltb-true, ltb-false, leb-true, leb-false, eqb-true, eqb-false, lt-ltb, le-ltb, eq-eqb, ne_eqb, le-leb, lt-leb}
-use Rattle.faults.specs.declared.Told.{Told}
-use Rattle.faults.specs.declared.Told.TheVariants.{Nothing, At}
-use Rattle.faults.specs.Faults.{Fault, is_earlier, earlier, least, ◌otherwise◌}
+use Rattle.std.proofs.Common.{Less, Equal, Greater}
+use denote.Enum.Declared.{tag_of}
+use Rattle.std.proofs.lemmas.Bool.Decides.{nat_tests}
+use Rattle.faults.specs.contracts.FaultKind.{the_type}
+use Rattle.faults.specs.contracts.FaultOrd.TheImpl.{cmp-value}
+use Rattle.faults.specs.declared.Fault.{Fault}
+use Rattle.faults.specs.declared.FaultKind.{FaultKind}
+use Rattle.faults.specs.Faults.{fault_number, is_earlier, earlier, least, ◌otherwise◌}
+
+-- ---- the order
 
 -- by cases of a test, with its equation
 both {ℓ} : {X : Type ℓ} (b : Bool) → (b ≡ true → X) → (b ≡ false → X) → X
 both true f g = f refl
 both false f g = g refl
 
--- ---- the order
+-- the number that a kind is compared by
+by_number : (k : FaultKind) → get_or {A = ℤ} (pos 21 ∷ pos 22 ∷ pos 23 ∷ pos 24 ∷ pos 25 ∷ []) (tag_of the_type k) (pos 0) ≡ pos (fault_number k)
+by_number FaultKind.NotJson = refl
+by_number FaultKind.WrongKind = refl
+by_number FaultKind.FieldMissing = refl
+by_number FaultKind.NameRepeated = refl
+by_number FaultKind.RuleBroken = refl
 
-data Order (p m q n : ℕ) : Type 0 where
-  before : p < q → Order p m q n
-  beside : p ≡ q → m ≤ n → Order p m q n
+by_places : (p q m n : ℕ) → is_lt (ordering_then (nat_cmp q p) (cond (nat_lt n m) Less (cond (nat_lt m n) Greater Equal))) ≡ not (ltb p q || (eqb p q && leb m n))
+by_places p q m n = grind (arith, nat_tests)
 
-data Reverse (p m q n : ℕ) : Type 0 where
-  behind : q < p → Reverse p m q n
-  above : p ≡ q → n < m → Reverse p m q n
+-- the code's order of faults is that of their places and numbers
+lesser : (f g : Fault) → is_lt (cmp-value.it g f) ≡ not (is_earlier f g)
+unfolding is_earlier
+lesser f g = rw (by_number f.kind, by_number g.kind) (by_places f.place g.place (fault_number f.kind) (fault_number g.kind))
 
-module _ (p m q n : ℕ) where
-  order : is_earlier p m q n ≡ true → Order p m q n
+kind_at : ℕ → FaultKind
+kind_at n = cond (nat_eq n 21) FaultKind.NotJson (cond (nat_eq n 22) FaultKind.WrongKind (cond (nat_eq n 23) FaultKind.FieldMissing (cond (nat_eq n 24) FaultKind.NameRepeated FaultKind.RuleBroken)))
+
+kind-number : (k : FaultKind) → kind_at (fault_number k) ≡ k
+unfolding kind_at
+kind-number FaultKind.NotJson = refl
+kind-number FaultKind.WrongKind = refl
+kind-number FaultKind.FieldMissing = refl
+kind-number FaultKind.NameRepeated = refl
+kind-number FaultKind.RuleBroken = refl
+
+module _ (f g : Fault) where
+  pub is-before : f.place < g.place → true ≡ is_earlier f g
   unfolding is_earlier
-  order e = both (ltb p q)
-      (λ a. before (ltb-true p q a))
-      (λ a. both (eqb p q)
-      (λ b. beside (eqb-true p q b) (leb-true m n (rw (a, b) at e)))
-      (λ b. absurd (false≢true (rw (a, b) at e))))
+  is-before h = grind (arith, nat_tests)
 
-  reverse : is_earlier p m q n ≡ false → Reverse p m q n
+  pub is-behind : g.place < f.place → false ≡ is_earlier f g
   unfolding is_earlier
-  reverse e = both (ltb p q)
-      (λ a. absurd (false≢true (sym (rw a at e))))
-      (λ a. both (eqb p q)
-      (λ b. above (eqb-true p q b) (leb-false m n (rw (a, b) at e)))
-      (λ b. let h = eqb-false p q b in let g = ltb-false p q a in behind (lt_of g h)))
-    where
-      lt_of : q ≤ p → (p ≡ q → ⊥) → q < p
-      lt_of g h = omega (arith, g, h)
+  is-behind h = grind (arith, nat_tests)
 
-  earlier_yes : Order p m q n → is_earlier p m q n ≡ true
+  pub is-beside : f.place ≡ g.place → leb (fault_number f.kind) (fault_number g.kind) ≡ is_earlier f g
   unfolding is_earlier
-  earlier_yes (before h) = rw (lt-ltb p q h)
-  earlier_yes (beside e h) = rw (le-ltb p q (omega (arith, e)), eq-eqb p q e, le-leb m n h)
+  is-beside e = grind (arith, nat_tests)
 
-  earlier_no : Reverse p m q n → is_earlier p m q n ≡ false
+  pub same_fault : f.place ≡ g.place → fault_number f.kind ≡ fault_number g.kind → f ≡ g
+  same_fault p q = ap (λ (k : FaultKind). record { place = f.place; kind = k }) (sym (kind-number f.kind) ∙ (ap kind_at q ∙ kind-number g.kind)) ∙
+      ap (λ (n : ℕ). record { place = n; kind = g.kind }) p
+
+  either_first : is_earlier f g ≡ true → is_earlier g f ≡ true → f ≡ g
   unfolding is_earlier
-  earlier_no (behind h) = rw (le-ltb p q (omega (arith, h)), ne_eqb p q (omega (arith, h)))
-  earlier_no (above e h) = rw (le-ltb p q (omega (arith, e)), eq-eqb p q e, lt-leb m n h)
+  either_first a b = same_fault (grind (arith, nat_tests)) (grind (arith, nat_tests))
 
-module _ (p m q n : ℕ) where
-  pub is-before : p < q → true ≡ is_earlier p m q n
-  is-before h = sym (earlier_yes p m q n (before h))
-
-  pub is-behind : q < p → false ≡ is_earlier p m q n
-  is-behind h = sym (earlier_no p m q n (behind h))
-
-  pub is-beside : p ≡ q → leb m n ≡ is_earlier p m q n
+  neither_first : is_earlier f g ≡ false → is_earlier g f ≡ false → ⊥
   unfolding is_earlier
-  is-beside e = rw (le-ltb p q (omega (arith, e)), eq-eqb p q e)
+  neither_first a b = grind (arith, nat_tests)
+
+module _ (f g h : Fault) where
+  order_trans : is_earlier f g ≡ true → is_earlier g h ≡ true → is_earlier f h ≡ true
+  unfolding is_earlier
+  order_trans a b = grind (arith, nat_tests)
+
+  reverse_trans : is_earlier f g ≡ false → is_earlier g h ≡ false → is_earlier f h ≡ false
+  unfolding is_earlier
+  reverse_trans a b = grind (arith, nat_tests)
 
 -- ---- the first of two
 
 -- by the cases of both
-module _ {a b : Told} where
-  pub first-none : a ≡ Nothing → b ≡ earlier a b
+module _ {a b : Option Fault} where
+  pub none_first : a ≡ None → b ≡ earlier a b
   unfolding earlier
-  first-none e = rw e
+  none_first e = rw e
 
-  pub second_none : {p m : ℕ} → a ≡ At p m → b ≡ Nothing → At p m ≡ earlier a b
+  pub one_alone : {f : Fault} → a ≡ Some f → b ≡ None → Some f ≡ earlier a b
   unfolding earlier
-  second_none e d = rw (e, d)
+  one_alone e d = rw (e, d)
 
-  module _ {p m q n : ℕ} (e : a ≡ At p m) (d : b ≡ At q n) where
-    pub first-earlier : {t : Bool} → t ≡ is_earlier p m q n → t ≡ true → At p m ≡ earlier a b
-    unfolding earlier
-    first-earlier x y = rw (e, d, sym x ∙ y, earlier)
+  pub lesser_first : {f g r : Fault} → a ≡ Some f → b ≡ Some g → r ≡ ord_min cmp-value.it f g → Some r ≡ earlier a b
+  unfolding earlier
+  lesser_first {f} {g} e d m = rw (e, d, m, lesser f g) (go (is_earlier f g))
+    where
+      go : (t : Bool) → Some (cond (not t) g f) ≡ elim t [ true ↦ Some f | false ↦ Some g ]
+      go true = refl
+      go false = refl
 
-    pub second-earlier : {t : Bool} → t ≡ is_earlier p m q n → t ≡ false → At q n ≡ earlier a b
-    unfolding earlier
-    second-earlier x y = rw (e, d, sym x ∙ y, earlier)
-
-pub earlier-none : (a : Told) → earlier a Nothing ≡ a
+pub earlier-none : (a : Option Fault) → earlier a None ≡ a
 unfolding earlier
-earlier-none Nothing = refl
-earlier-none (At p m) = refl
+earlier-none None = refl
+earlier-none (Some f) = refl
 
-module _ (p m q n : ℕ) where
-  pub earlier-first : is_earlier p m q n ≡ true → earlier (At p m) (At q n) ≡ At p m
+module _ (f g : Fault) where
+  pub earlier-first : is_earlier f g ≡ true → earlier (Some f) (Some g) ≡ Some f
   unfolding earlier
   earlier-first e = rw (e, earlier)
 
-  pub earlier-second : is_earlier p m q n ≡ false → earlier (At p m) (At q n) ≡ At q n
+  pub earlier-second : is_earlier f g ≡ false → earlier (Some f) (Some g) ≡ Some g
   unfolding earlier
   earlier-second e = rw (e, earlier)
 
-same-fault : {p m q n : ℕ} → Order p m q n → Order q n p m → At p m ≡ At q n
-same-fault (before h) (before k) = absurd (omega (arith, h, k))
-same-fault (before h) (beside e k) = absurd (omega (arith, h, e))
-same-fault (beside e h) (before k) = absurd (omega (arith, e, k))
-same-fault (beside e h) (beside d k) = rw (e, le-le h k)
-  where
-    le-le : {a b : ℕ} → a ≤ b → b ≤ a → a ≡ b
-    le-le h k = omega (arith, h, k)
-
-total : {p m q n : ℕ} → Reverse p m q n → Reverse q n p m → ⊥
-total (behind h) (behind k) = omega (arith, h, k)
-total (behind h) (above e k) = omega (arith, h, e)
-total (above e h) (behind k) = omega (arith, e, k)
-total (above e h) (above d k) = omega (arith, h, k)
-
-pub earlier_comm : (a b : Told) → earlier a b ≡ earlier b a
+pub earlier_comm : (a b : Option Fault) → earlier a b ≡ earlier b a
 unfolding earlier
-earlier_comm Nothing b = sym (earlier-none b)
-earlier_comm (At p m) Nothing = refl
-earlier_comm (At p m) (At q n) = both (is_earlier p m q n)
-    (λ e. both (is_earlier q n p m)
-    (λ d. earlier-first p m q n e ∙ (same-fault (order p m q n e) (order q n p m d) ∙ sym (earlier-first q n p m d)))
-    (λ d. earlier-first p m q n e ∙ sym (earlier-second q n p m d)))
-    (λ e. both (is_earlier q n p m)
-    (λ d. earlier-second p m q n e ∙ sym (earlier-first q n p m d))
-    (λ d. absurd (total (reverse p m q n e) (reverse q n p m d))))
+earlier_comm None b = sym (earlier-none b)
+earlier_comm (Some f) None = refl
+earlier_comm (Some f) (Some g) = both (is_earlier f g)
+    (λ e. both (is_earlier g f)
+    (λ d. earlier-first f g e ∙ (ap (λ (x : Fault). Some x) (either_first f g e d) ∙ sym (earlier-first g f d)))
+    (λ d. earlier-first f g e ∙ sym (earlier-second g f d)))
+    (λ e. both (is_earlier g f)
+    (λ d. earlier-second f g e ∙ sym (earlier-first g f d))
+    (λ d. absurd (neither_first f g e d)))
 
-order_trans : {p m q n r o : ℕ} → Order p m q n → Order q n r o → Order p m r o
-order_trans (before h) (before k) = before (omega (arith, h, k))
-order_trans (before h) (beside e k) = before (omega (arith, h, e))
-order_trans (beside e h) (before k) = before (omega (arith, e, k))
-order_trans (beside e h) (beside d k) = beside (e ∙ d) (omega (arith, h, k))
-
-reverse_trans : {p m q n r o : ℕ} → Reverse p m q n → Reverse q n r o → Reverse p m r o
-reverse_trans (behind h) (behind k) = behind (omega (arith, h, k))
-reverse_trans (behind h) (above e k) = behind (omega (arith, h, e))
-reverse_trans (above e h) (behind k) = behind (omega (arith, e, k))
-reverse_trans (above e h) (above d k) = above (e ∙ d) (omega (arith, h, k))
-
-pub earlier_assoc : (a b c : Told) → earlier (earlier a b) c ≡ earlier a (earlier b c)
+pub earlier_assoc : (a b c : Option Fault) → earlier (earlier a b) c ≡ earlier a (earlier b c)
 unfolding earlier
-earlier_assoc Nothing b c = refl
-earlier_assoc (At p m) Nothing c = refl
-earlier_assoc (At p m) (At q n) Nothing = earlier-none (earlier (At p m) (At q n))
-earlier_assoc (At p m) (At q n) (At r o) = both (is_earlier p m q n)
-    (λ e. both (is_earlier q n r o)
-    (λ d. rw (earlier-first p m q n e, earlier-first q n r o d, earlier-first p m q n e)
-    (earlier-first p m r o (earlier_yes p m r o (order_trans (order p m q n e) (order q n r o d)))))
-    (λ d. rw (earlier-first p m q n e, earlier-second q n r o d)))
-    (λ e. both (is_earlier q n r o)
-    (λ d. rw (earlier-second p m q n e, earlier-first q n r o d, earlier-second p m q n e))
-    (λ d. rw (earlier-second p m q n e, earlier-second q n r o d)
-    (sym (earlier-second p m r o (earlier_no p m r o (reverse_trans (reverse p m q n e) (reverse q n r o d)))))))
+earlier_assoc None b c = refl
+earlier_assoc (Some f) None c = refl
+earlier_assoc (Some f) (Some g) None = earlier-none (earlier (Some f) (Some g))
+earlier_assoc (Some f) (Some g) (Some h) = both (is_earlier f g)
+    (λ e. both (is_earlier g h)
+    (λ d. rw (earlier-first f g e, earlier-first g h d, earlier-first f g e) (earlier-first f h (order_trans f g h e d)))
+    (λ d. rw (earlier-first f g e, earlier-second g h d)))
+    (λ e. both (is_earlier g h)
+    (λ d. rw (earlier-second f g e, earlier-first g h d, earlier-second f g e))
+    (λ d. rw (earlier-second f g e, earlier-second g h d) (sym (earlier-second f h (reverse_trans f g h e d)))))
 
 -- nothing is told of two only where nothing is told of each
-abbrev count : Told → ℕ
-count Nothing = 0
-count (At p m) = 1
+abbrev count : Option Fault → ℕ
+count None = 0
+count (Some f) = 1
 
-pub at-nothing : {p m : ℕ} → At p m ≡ Nothing → ⊥
+pub at-nothing : {f : Fault} → Some f ≡ None → ⊥
 at-nothing e = one-zero (ap count e)
   where
     one-zero : ◌≡◌ {A = ℕ} 1 0 → ⊥
     one-zero z = omega (arith, z)
 
-pub earlier-nothing : (a b : Told) → earlier a b ≡ Nothing → (a ≡ Nothing) × (b ≡ Nothing)
+pub earlier-nothing : (a b : Option Fault) → earlier a b ≡ None → (a ≡ None) × (b ≡ None)
 unfolding earlier
-earlier-nothing Nothing b e = (refl, e)
-earlier-nothing (At p m) Nothing e = absurd (at-nothing e)
-earlier-nothing (At p m) (At q n) e = both (is_earlier p m q n)
-    (λ d. absurd (at-nothing (sym (earlier-first p m q n d) ∙ e)))
-    (λ d. absurd (at-nothing (sym (earlier-second p m q n d) ∙ e)))
+earlier-nothing None b e = (refl, e)
+earlier-nothing (Some f) None e = absurd (at-nothing e)
+earlier-nothing (Some f) (Some g) e = both (is_earlier f g)
+    (λ d. absurd (at-nothing (sym (earlier-first f g d) ∙ e)))
+    (λ d. absurd (at-nothing (sym (earlier-second f g d) ∙ e)))
 
 -- ---- the least of a list
 
 pub least-join : (fs gs : List Fault) → least (fs ++ gs) ≡ earlier (least fs) (least gs)
-unfolding least earlier ◌++◌
+unfolding least earlier
 least-join [] gs = refl
-least-join (f ∷ fs) gs = ap (earlier (At f.place f.number)) (least-join fs gs) ∙ sym (earlier_assoc (At f.place f.number) (least fs) (least gs))
+least-join (f ∷ fs) gs = ap (earlier (Some f)) (least-join fs gs) ∙ sym (earlier_assoc (Some f) (least fs) (least gs))
 
 -- so the order of the faults does not matter
 pub least-swap : (fs gs : List Fault) → least (fs ++ gs) ≡ least (gs ++ fs)
 least-swap fs gs = least-join fs gs ∙ (earlier_comm (least fs) (least gs) ∙ sym (least-join gs fs))
 
 -- nothing is told exactly where there is no fault
-pub least-nothing : (fs : List Fault) → least fs ≡ Nothing → fs ≡ []
+pub least-nothing : (fs : List Fault) → least fs ≡ None → fs ≡ []
 unfolding least
 least-nothing [] e = refl
-least-nothing (f ∷ fs) e = absurd (at-nothing (earlier-nothing (At f.place f.number) (least fs) e).0)
+least-nothing (f ∷ fs) e = absurd (at-nothing (earlier-nothing (Some f) (least fs) e).0)
 
-pub least-none : {fs : List Fault} → fs ≡ [] → Nothing ≡ least fs
+pub least-none : {fs : List Fault} → fs ≡ [] → None ≡ least fs
 unfolding least
 least-none e = rw e
 
-pub least-one : (p m : ℕ) → At p m ≡ least (record { place = p; number = m } ∷ [])
+pub least-one : (f : Fault) → Some f ≡ least (f ∷ [])
 unfolding least earlier
-least-one p m = refl
+least-one f = refl
 
 -- a rule's fault, by its test
 module _ (test : Bool) (f : Fault) where
-  pub rule-holds : test ≡ true → Nothing ≡ least (test otherwise f)
+  pub rule-holds : test ≡ true → None ≡ least (test otherwise f)
   unfolding ◌otherwise◌ least
   rule-holds e = rw e
 
-  pub rule-broken : test ≡ false → At f.place f.number ≡ least (test otherwise f)
+  pub rule-broken : test ≡ false → Some f ≡ least (test otherwise f)
   unfolding ◌otherwise◌ least earlier
   rule-broken e = rw e
 
+-- a fault that the code makes, by what it is
+pub told-as : {f g : Fault} {t : Option Fault} → f ≡ g → Some g ≡ t → Some f ≡ t
+told-as e h = ap (λ (x : Fault). Some x) e ∙ h
+
+pub is-told : {f g : Fault} → f ≡ g → Some f ≡ Some g
+is-told e = ap (λ (x : Fault). Some x) e
+
+-- what is told of a fault, or of another where it is none
+pub or_told : (a : Option Fault) {t : Option Fault} {f : Fault} → (a ≡ None → Some f ≡ t) → ((x : Fault) → a ≡ Some x → Some x ≡ t) → option_or a (Some f) ≡ t
+or_told None n o = n refl
+or_told (Some x) n o = o x refl
+
 -- what is told of a list whose first part is told as a, whose second as b
-pub join-told : (fs gs : List Fault) {a b : Told} → a ≡ least fs → b ≡ least gs → earlier a b ≡ least (fs ++ gs)
+pub join-told : (fs gs : List Fault) {a b : Option Fault} → a ≡ least fs → b ≡ least gs → earlier a b ≡ least (fs ++ gs)
 join-told fs gs p q = rw (p, q) (sym (least-join fs gs))
 
 -- where there is no fault, each part has none

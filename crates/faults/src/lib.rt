@@ -2,52 +2,48 @@
 #![tactic(auto)]
 
 ghost use Rattle.std.specs.Prelude.{◌≡◌};
-ghost use Rattle.faults.specs.Faults.{is_earlier, earlier};
+ghost use Rattle.faults.specs.Faults.{fault_number, fault, earlier};
 
-// The numbers of the faults of a description.
-pub const NOT_JSON: u8 = 21;
-
-pub const WRONG_KIND: u8 = 22;
-
-pub const MISSING: u8 = 23;
-
-pub const REPEATED: u8 = 24;
-
-pub const OTHER_RULE: u8 = 25;
-
-// What is told of faults: nothing where there is none, else the place and the number of the first.
-#[derive(Clone, Copy)]
-pub enum Told {
-    Nothing,
-    At(usize, u8),
+// The kinds of the faults of a description, by the paper's numbers.
+#[derive(Clone, Copy, PartialEq, Eq, PartialOrd, Ord)]
+pub enum FaultKind {
+    NotJson = 21,
+    WrongKind = 22,
+    FieldMissing = 23,
+    NameRepeated = 24,
+    RuleBroken = 25,
 }
 
-fn is_earlier(p: usize, m: u8, q: usize, n: u8) -> bool
-    ensures { result ≡ is_earlier p m q n }
-{
-    if p < q {
-        return true;
+impl FaultKind {
+    // The paper's number.
+    pub fn number(self) -> u8
+        ensures { result ≡ fault_number self }
+    {
+        self as u8
     }
-    if p == q {
-        return m <= n;
+
+    // A fault of that kind.
+    pub fn at(self, place: usize) -> Fault
+        ensures { result ≡ fault place self }
+    {
+        Fault { place, kind: self }
     }
-    false
 }
 
-// The first of two faults.
-pub fn earlier(a: Told, b: Told) -> Told
+// A fault, at its byte place. The lesser of two is the first.
+#[derive(Clone, Copy, PartialEq, Eq, PartialOrd, Ord)]
+pub struct Fault {
+    pub place: usize,
+    pub kind: FaultKind,
+}
+
+// The first of two faults, where there are any.
+pub fn earlier(a: Option<Fault>, b: Option<Fault>) -> Option<Fault>
     ensures { result ≡ earlier a b }
 {
-    match a {
-        Told::Nothing => b,
-        Told::At(p, m) => match b {
-            Told::Nothing => a,
-            Told::At(q, n) => {
-                if is_earlier(p, m, q, n) {
-                    return a;
-                }
-                b
-            }
-        },
+    match (a, b) {
+        (Some(f), Some(g)) => Some(f.min(g)),
+        (Some(f), None) => Some(f),
+        (None, _) => b,
     }
 }

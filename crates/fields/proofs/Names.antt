@@ -1,4 +1,5 @@
 -- Members that all come first have different names.
+use Rattle.std.specs.Prelude.{Err, Ok, Result, Option, Some, None}
 use Prim.Native.Nat.{ℕ, zero, suc, ◌+◌, ◌≤◌, ◌<◌}
 use native.Mathlib.Omega.{arith}
 use mathlib.Core.Path.{◌≡◌, refl, sym, ap, ◌∙◌}
@@ -10,18 +11,14 @@ use lib.ListN.{length}
 use Rattle.json_text.specs.Bytes.{byte, ws, past}
 use Rattle.json_text.specs.Value.{key_at, value_at}
 use Rattle.json_text.specs.Members.{Member, next_at, item_at, member_at, list_from, members_at}
-use Rattle.json_text.specs.declared.Scan.{Scan}
-use Rattle.json_text.specs.declared.Scan.TheVariants.{End, Bad}
 use Rattle.json_text.specs.declared.Item.{Item}
-use Rattle.json_text.specs.declared.Item.TheVariants.{At, Done}
 use Rattle.json_grammar.proofs.Ends.{Past, key-past, value-past}
 use Rattle.text.specs.Ids.{is_id}
 use Rattle.text.proofs.Bytes.{both}
 use Rattle.escapes.specs.Decode as D
-use Rattle.faults.specs.Faults.{Fault, other_rule, repeated}
+use Rattle.faults.specs.declared.Fault.{Fault}
+use Rattle.faults.specs.Faults.{other_rule, repeated}
 use Rattle.faults.proofs.Laws.{both-none, rule-kept}
-use Rattle.fields.specs.declared.Field.{Field}
-use Rattle.fields.specs.declared.Field.TheVariants.{Absent, First}
 use Rattle.fields.specs.Values.{decoded_at, string_bytes, is_object, members, name_of}
 use Rattle.fields.specs.Fields.{decoded_faults, id_rule, among, field, is_first, first_of, comes_first, entry_faults}
 use Rattle.fields.proofs.Decoded.{no-faults}
@@ -99,34 +96,34 @@ module _ (s : List ℕ) where
       (λ q. rw (q, next_at) (omega arith))
 
   -- where a step from i leads
-  abbrev Steps : ℕ → Item → Type 0
-  Steps i (At k e n) = (i ≤ k) × (k < n)
-  Steps i Done = Unit {0}
+  abbrev Steps : ℕ → Option Item → Type 0
+  Steps i (Some t) = (i ≤ t.value) × (t.value < t.next)
+  Steps i None = Unit {0}
 
   item-steps : (i k : ℕ) → i ≤ k → Steps i (item_at s k)
   unfolding item_at
   item-steps i k h = go (value_at 16 s k) refl (value-past s 16 k)
     where
-      go : (r : Scan) → value_at 16 s k ≡ r → Past s k r → Steps i (item_at s k)
-      go (End e) q p = let l = next_from e in rw (q, item_at) (omega arith, omega arith)
-      go (Bad e) q p = rw (q, item_at) tt
+      go : (r : Result ℕ ℕ) → value_at 16 s k ≡ r → Past s k r → Steps i (item_at s k)
+      go (Ok e) q p = let l = next_from e in rw (q, item_at) (omega arith, omega arith)
+      go (Err e) q p = rw (q, item_at) tt
 
   member-steps : (i : ℕ) → Steps i (member_at s i)
   unfolding member_at
   member-steps i = go (key_at s i) refl (key-past s i)
     where
-      go : (r : Scan) → key_at s i ≡ r → Past s i r → Steps i (member_at s i)
-      go (End k) q p = rw (q, member_at) (item-steps i k (omega arith))
-      go (Bad e) q p = rw (q, member_at) tt
+      go : (r : Result ℕ ℕ) → key_at s i ≡ r → Past s i r → Steps i (member_at s i)
+      go (Ok k) q p = rw (q, member_at) (item-steps i k (omega arith))
+      go (Err e) q p = rw (q, member_at) tt
 
   ascends : (f i : ℕ) → Ascend i (list_from (member_at s) f i)
   unfolding list_from
   ascends zero i = ascend-none
   ascends (suc f) i = go (member_at s i) refl (member-steps i) (λ j. ascends f j)
     where
-      go : (r : Item) → member_at s i ≡ r → Steps i r → ((j : ℕ) → Ascend j (list_from (member_at s) f j)) → Ascend i (list_from (member_at s) (suc f) i)
-      go (At k e n) q l ih = rw (q, list_from) (ascend-more l.0 (ascend_from (k + 1) _ (omega arith) (ih n)))
-      go Done q l ih = rw (q, list_from) ascend-none
+      go : (r : Option Item) → member_at s i ≡ r → Steps i r → ((j : ℕ) → Ascend j (list_from (member_at s) f j)) → Ascend i (list_from (member_at s) (suc f) i)
+      go (Some t) q l ih = rw (q, list_from) (ascend-more l.0 (ascend_from (t.value + 1) _ (omega arith) (ih t.next)))
+      go None q l ih = rw (q, list_from) ascend-none
 
   pub members_ascend : (at : ℕ) → Ascend 0 (members s at)
   unfolding members members_at
@@ -136,10 +133,10 @@ module _ (s : List ℕ) where
 
 -- ---- the first of a name is one
 
-pub same_first : (f : Field) (j k : ℕ) → is_first j f ≡ true → is_first k f ≡ true → j ≡ k
+pub same_first : (f : Option ℕ) (j k : ℕ) → is_first j f ≡ true → is_first k f ≡ true → j ≡ k
 unfolding is_first
-same_first Absent j k p q = absurd (false≢true p)
-same_first (First i) j k p q = sym (eqb-true i j p) ∙ eqb-true i k q
+same_first None j k p q = absurd (false≢true p)
+same_first (Some i) j k p q = sym (eqb-true i j p) ∙ eqb-true i k q
 
 module _ (s : List ℕ) (at : ℕ) where
   -- the first of a name without half a pair

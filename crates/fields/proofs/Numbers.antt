@@ -1,7 +1,9 @@
 -- The numbers of names, and what is noted of a known field.
+use Rattle.std.specs.Prelude.{Err, Ok, Result, None, Option, Some}
+use Rattle.std.specs.Option.{is_some}
 use Prim.Native.Nat.{ℕ, zero, suc, ◌≤◌, ◌<◌}
 use native.Mathlib.Omega.{arith}
-use mathlib.Core.Path.{◌≡◌, refl, sym, ap, ◌∙◌}
+use mathlib.Core.Path.{◌≡◌, refl, sym, ap, ◌∙◌, subst}
 use mathlib.Core.List.{List, [], ◌∷◌}
 use mathlib.Core.Bool.{Bool, true, false, not, ◌&&◌, ◌||◌, true≢false, false≢true, or-false, or-true}
 use lib.ListN.{length, get_or, set, replicate, length-set}
@@ -11,23 +13,18 @@ use borrow.Author.Tests.{eq-eqb, ne_eqb, eqb-true, leb-true}
 use Rattle.json_text.specs.Strings.{raw_bytes, is_plain}
 use Rattle.text.specs.Bytes.{eq_bytes, slice}
 use Rattle.escapes.specs.Decode.{Decoded, whole, half, is_this}
-use Rattle.escapes.specs.declared.Decoding.{Decoding}
-use Rattle.escapes.specs.declared.Decoding.TheVariants.{Whole, Half}
 use Rattle.fields.proofs.Decoded.{plain-decoded, decoded-whole, decoded-length, decoded-bytes, broken_at}
-use Rattle.fields.proofs.Rules.{or_as}
 use Rattle.text.proofs.Bytes.{both, and_both, eq_bytes-true, at_most}
-use Rattle.faults.specs.declared.Told.{Told}
-use Rattle.faults.specs.declared.Told.TheVariants.{Nothing, At}
-use Rattle.faults.specs.Faults.{earlier, least, ◌otherwise◌}
+use Rattle.faults.specs.declared.Fault.{Fault}
+use Rattle.faults.specs.Faults.{earlier, least, ◌otherwise◌, repeated}
 use Rattle.fields.specs.declared.Owner.{Owner}
 use Rattle.fields.specs.declared.Owner.TheVariants.{Device, Node, Property}
-use Rattle.fields.specs.declared.Field.{Field}
-use Rattle.fields.specs.declared.Field.TheVariants.{Absent, First}
 use Rattle.fields.specs.Values.{decoded_at, string_bytes, DecodesAt}
 use Rattle.fields.specs.Fields.{unless_half, decoded_faults, no_rule, one_more}
 use Rattle.fields.specs.Names.{known_names, is_one_of, is_known}
-use Rattle.fields.specs.Known.{known_name, field_from, field_at}
-use Rattle.fields.specs.Parts.{Numbered, search, names4, names5, names6, names7, names8, names10, names_of, number_of, Classified, is_known_number, again_faults, seen_faults, seen_more, Saw}
+use Rattle.fields.specs.declared.Field.{Field}
+use Rattle.fields.specs.Known.{known_name, number, field_from, field_at}
+use Rattle.fields.specs.Parts.{Numbered, search, names4, names5, names6, names7, names8, names10, names_of, number_of, number_in, Classified, is_known_number, again_faults, seen_faults, seen_more, Saw}
 
 -- ---- a test of all numbers below a bound
 
@@ -158,15 +155,15 @@ module _ (s : List ℕ) (i : ℕ) {t : List ℕ} {c : ℕ} (n : c ≡ number_of 
   number-other x h p e = let l = number-low t n in let z : c ≡ 15 = omega arith in rw (plain-decoded s i (sym p ∙ e), sym x) (classified t (sym z ∙ n))
 
   -- or decoded
-  pub number-decoded : {before after : List ℕ} {r : Decoding} {k : ℕ} → DecodesAt s i before after r → r ≡ Whole k → k ≤ length before → t ≡ slice after 0 k → Classified (decoded_at s i) c
+  pub number-decoded : {before after : List ℕ} {r : Result ℕ ℕ} {k : ℕ} → DecodesAt s i before after r → r ≡ Ok k → k ≤ length before → t ≡ slice after 0 k → Classified (decoded_at s i) c
   number-decoded w q h x = rw (decoded-whole s i w q, sym (decoded-bytes s i w q h x)) (classified t n)
 
-module _ (s : List ℕ) (i : ℕ) {before after : List ℕ} {r : Decoding} (w : DecodesAt s i before after r) where
-  pub number-half : {p : ℕ} → r ≡ Half p → Classified (decoded_at s i) 15
+module _ (s : List ℕ) (i : ℕ) {before after : List ℕ} {r : Result ℕ ℕ} (w : DecodesAt s i before after r) where
+  pub number-half : {p : ℕ} → r ≡ Err p → Classified (decoded_at s i) 15
   number-half q = let h = broken_at s i w q in rw h.1 (half_classified h.0)
 
   -- no known name is so long
-  pub number-long : {k : ℕ} → r ≡ Whole k → 10 < k → Classified (decoded_at s i) 15
+  pub number-long : {k : ℕ} → r ≡ Ok k → 10 < k → Classified (decoded_at s i) 15
   number-long q h = let l = decoded-length s i w q in
       rw (decoded-whole s i w q) (classified (string_bytes s i) (no_length (string_bytes s i) (λ e. omega arith) (λ e. omega arith) (λ e. omega arith) (λ e. omega arith) (λ e. omega arith) (λ e. omega arith)))
 
@@ -216,33 +213,15 @@ half-other : {p c : ℕ} → Classified (half p) c → c < 15 → ⊥
 unfolding is_this
 half-other {p} {c} y h = false≢true (y.names c h ∙ eq-eqb c c refl)
 
--- the tests of an owner's numbers, from the last one on
-
-module _ (c : ℕ) where
-  pub device-field : {r1 r2 r3 r4 r5 r6 r7 r8 : Bool} → r1 ≡ (eqb c 6 || eqb c 14) → r2 ≡ (eqb c 3 || r1) → r3 ≡ (eqb c 12 || r2) → r4 ≡ (eqb c 1 || r3) → r5 ≡ (eqb c 0 || r4) → r6 ≡ (eqb c 5 || r5) → r7 ≡ (eqb c 8 || r6) → r8 ≡ (eqb c 4 || r7) → r8 ≡ is_known_number Device c
-  unfolding is_known_number
-  device-field p1 p2 p3 p4 p5 p6 p7 p8 = or_as (eqb c 4) p8 (or_as (eqb c 8) p7 (or_as (eqb c 5) p6 (or_as (eqb c 0) p5 (or_as (eqb c 1) p4 (or_as (eqb c 12) p3 (or_as (eqb c 3) p2 p1))))))
-
-  pub node-field : {r1 r2 : Bool} → r1 ≡ (eqb c 1 || eqb c 13) → r2 ≡ (eqb c 0 || r1) → r2 ≡ is_known_number Node c
-  unfolding is_known_number
-  node-field p1 p2 = or_as (eqb c 0) p2 p1
-
-  pub property-field : {r1 r2 r3 r4 r5 : Bool} → r1 ≡ (eqb c 10 || eqb c 11) → r2 ≡ (eqb c 7 || r1) → r3 ≡ (eqb c 2 || r2) → r4 ≡ (eqb c 0 || r3) → r5 ≡ (eqb c 9 || r4) → r5 ≡ is_known_number Property c
-  unfolding is_known_number
-  property-field p1 p2 p3 p4 p5 = or_as (eqb c 9) p5 (or_as (eqb c 0) p4 (or_as (eqb c 2) p3 (or_as (eqb c 7) p2 p1)))
-
-pub of_owner : {owner : Owner} (o : Owner) (c : ℕ) {r : Bool} → owner ≡ o → r ≡ is_known_number o c → r ≡ is_known_number owner c
-of_owner o c q x = x ∙ ap (λ (z : Owner). is_known_number z c) (sym q)
-
 -- ---- what is told of a name
 
 module _ (owner : Owner) (first i : ℕ) where
-  whole-none : (t : List ℕ) → (not (is_known owner t) || eqb first 0) ≡ true → Nothing ≡ least (seen_faults owner (whole t) first i)
+  whole-none : (t : List ℕ) → (not (is_known owner t) || eqb first 0) ≡ true → None ≡ least (seen_faults owner (whole t) first i)
   unfolding seen_faults unless_half again_faults ◌otherwise◌ least
   whole-none t q = rw q
 
 module _ (owner : Owner) (first i : ℕ) {c : ℕ} where
-  pub name-other : (s : List ℕ) {r : Told} → Classified (decoded_at s i) c → 15 ≤ c → r ≡ least (decoded_faults s i no_rule) → r ≡ least (seen_faults owner (decoded_at s i) first i)
+  pub name-other : (s : List ℕ) {r : Option Fault} → Classified (decoded_at s i) c → 15 ≤ c → r ≡ least (decoded_faults s i no_rule) → r ≡ least (seen_faults owner (decoded_at s i) first i)
   unfolding decoded_faults seen_faults unless_half no_rule least
   name-other s y h x = x ∙ go (decoded_at s i) y
     where
@@ -250,19 +229,68 @@ module _ (owner : Owner) (first i : ℕ) {c : ℕ} where
       go (whole t) z = whole-none owner first i t (rw (other-unknown z owner h))
       go (half p) z = refl
 
-  pub name-first : (d : Decoded) → Classified d c → c < 15 → first ≡ 0 → Nothing ≡ least (seen_faults owner d first i)
+  pub name-first : (d : Decoded) → Classified d c → c < 15 → first ≡ 0 → None ≡ least (seen_faults owner d first i)
   name-first (whole t) y h e = whole-none owner first i t (rw (eq-eqb first 0 e) (or-true (not (is_known owner t))))
   name-first (half p) y h e = absurd (half-other y h)
 
   module _ {b : Bool} (p : b ≡ is_known_number owner c) where
-    pub name-repeated : (d : Decoded) → Classified d c → c < 15 → (first ≡ 0 → ⊥) → b ≡ true → At i 24 ≡ least (seen_faults owner d first i)
+    pub name-repeated : (d : Decoded) → Classified d c → c < 15 → (first ≡ 0 → ⊥) → b ≡ true → Some (repeated i) ≡ least (seen_faults owner d first i)
     unfolding seen_faults unless_half again_faults ◌otherwise◌ least earlier
     name-repeated (whole t) y h n e = rw (known_is y owner ∙ sym p ∙ e, ne_eqb first 0 n)
     name-repeated (half q) y h n e = absurd (half-other y h)
 
-    pub name_foreign : (d : Decoded) → Classified d c → c < 15 → b ≡ false → Nothing ≡ least (seen_faults owner d first i)
+    pub name_foreign : (d : Decoded) → Classified d c → c < 15 → b ≡ false → None ≡ least (seen_faults owner d first i)
     name_foreign (whole t) y h e = whole-none owner first i t (rw (known_is y owner ∙ sym p ∙ e))
     name_foreign (half q) y h e = absurd (half-other y h)
+
+-- ---- of a field or none
+
+number_below : (f : Field) → number f < 15
+number_below Field.Name = lit< tt
+number_below Field.Type = lit< tt
+number_below Field.Unit = lit< tt
+number_below Field.Root = lit< tt
+number_below Field.Homie = lit< tt
+number_below Field.Nodes = lit< tt
+number_below Field.Parent = lit< tt
+number_below Field.Format = lit< tt
+number_below Field.Version = lit< tt
+number_below Field.Datatype = lit< tt
+number_below Field.Settable = lit< tt
+number_below Field.Retained = lit< tt
+number_below Field.Children = lit< tt
+number_below Field.Properties = lit< tt
+number_below Field.Extensions = lit< tt
+
+pub number-some : (name : Option Field) → true ≡ is_some name → number_in name < 15
+number-some None e = absurd (true≢false e)
+number-some (Some f) e = number_below f
+
+pub number-none : (name : Option Field) → false ≡ is_some name → 15 ≤ number_in name
+number-none None e = omega arith
+number-none (Some f) e = absurd (false≢true e)
+
+number_is : {name : Option Field} {f : Field} {n : ℕ} → name ≡ Some f → n ≡ number f → n ≡ number_in name
+number_is q e = e ∙ ap number_in (sym q)
+
+-- what is told of the name at i, which names that field or none
+module _ (owner : Owner) (seen : List ℕ) (i : ℕ) {name : Option Field} where
+  pub more-other : (s : List ℕ) {r : Option Fault} → name ≡ None → Classified (decoded_at s i) (number_in name) → r ≡ least (decoded_faults s i no_rule) → r ≡ least (seen_faults owner (decoded_at s i) (get_or seen (number_in name) 0) i)
+  more-other s q y x = name-other owner (get_or seen (number_in name) 0) i s y (let e : number_in name ≡ 15 = ap number_in q in omega arith) x
+
+  module _ {f : Field} {n : ℕ} (q : name ≡ Some f) (e : n ≡ number f) (l : n < 15) where
+    pub more-first : (d : Decoded) → Classified d (number_in name) → get_or seen n 0 ≡ 0 → None ≡ least (seen_faults owner d (get_or seen (number_in name) 0) i)
+    more-first d y z = subst (λ (c : ℕ). Classified d c → None ≡ least (seen_faults owner d (get_or seen c 0) i)) (number_is q e) (λ x. name-first owner (get_or seen n 0) i d x l z) y
+
+    module _ {b : Bool} (p : b ≡ is_known_number owner (number f)) where
+      known_by : b ≡ is_known_number owner n
+      known_by = p ∙ ap (is_known_number owner) (sym e)
+
+      pub more-repeated : (d : Decoded) → Classified d (number_in name) → (get_or seen n 0 ≡ 0 → ⊥) → b ≡ true → Some (repeated i) ≡ least (seen_faults owner d (get_or seen (number_in name) 0) i)
+      more-repeated d y z h = subst (λ (c : ℕ). Classified d c → Some (repeated i) ≡ least (seen_faults owner d (get_or seen c 0) i)) (number_is q e) (λ x. name-repeated owner (get_or seen n 0) i known_by d x l z h) y
+
+      pub more-foreign : (d : Decoded) → Classified d (number_in name) → b ≡ false → None ≡ least (seen_faults owner d (get_or seen (number_in name) 0) i)
+      more-foreign d y h = subst (λ (c : ℕ). Classified d c → None ≡ least (seen_faults owner d (get_or seen c 0) i)) (number_is q e) (λ x. name_foreign owner (get_or seen n 0) i known_by d x l h) y
 
 -- ---- what is noted
 
@@ -271,20 +299,20 @@ zeros zero c = refl
 zeros (suc n) zero = refl
 zeros (suc n) (suc c) = zeros n c
 
-pub from-none : (first : ℕ) → first ≡ 0 → field_from first ≡ Absent
+pub from-none : (first : ℕ) → first ≡ 0 → field_from first ≡ None
 unfolding field_from
 from-none first e = rw (eq-eqb first 0 e, field_from)
 
-pub from_some : (first : ℕ) → (first ≡ 0 → ⊥) → field_from first ≡ First first
+pub from_some : (first : ℕ) → (first ≡ 0 → ⊥) → field_from first ≡ Some first
 unfolding field_from
 from_some first n = rw (ne_eqb first 0 n, field_from)
 
 module _ (m : List ℕ) (c : ℕ) where
-  pub at_none : get_or m c 0 ≡ 0 → Absent ≡ field_at m c
+  pub at_none : get_or m c 0 ≡ 0 → None ≡ field_at m c
   unfolding field_at
   at_none e = sym (from-none (get_or m c 0) e)
 
-  pub at_some : (get_or m c 0 ≡ 0 → ⊥) → First (get_or m c 0) ≡ field_at m c
+  pub at_some : (get_or m c 0 ≡ 0 → ⊥) → Some (get_or m c 0) ≡ field_at m c
   unfolding field_at
   at_some n = sym (from_some (get_or m c 0) n)
 
@@ -294,7 +322,7 @@ module _ (m : List ℕ) (c : ℕ) where
     unfolding field_at
     same_at m' j e = rw e
 
-    at_of : (m' : List ℕ) → get_or m' c 0 ≡ k → 0 < k → First k ≡ field_at m' c
+    at_of : (m' : List ℕ) → get_or m' c 0 ≡ k → 0 < k → Some k ≡ field_at m' c
     unfolding field_at
     at_of m' e p = sym (rw e (from_some k (λ x. absurd (omega arith))))
 
@@ -303,7 +331,7 @@ module _ (m : List ℕ) (c : ℕ) where
     saw-first z = record {
       long = length-set m c k;
       more = λ hk j hj. both (eqb j c)
-          (λ e. rw (e, eqb-true j c e) (sym (at_of (set m c k) (get_or-set_same m c k 0 (omega arith)) hk) ∙ ap (λ (f : Field). one_more f k) (at_none z)))
+          (λ e. rw (e, eqb-true j c e) (sym (at_of (set m c k) (get_or-set_same m c k 0 (omega arith)) hk) ∙ ap (λ (f : Option ℕ). one_more f k) (at_none z)))
           (λ e. rw e (same_at (set m c k) j (get_or-set_other m c j k 0 (λ q. true≢false (sym (eq-eqb j c q) ∙ e)))));
       below = λ n hk f j. both (eqb j c)
           (λ e. rw (eqb-true j c e, get_or-set_same m c k 0 (omega arith)) hk)
@@ -315,7 +343,20 @@ module _ (m : List ℕ) (c : ℕ) where
     saw-again z = record {
       long = refl;
       more = λ hk j hj. both (eqb j c)
-          (λ e. rw (e, eqb-true j c e) (sym (at_some z) ∙ ap (λ (f : Field). one_more f k) (at_some z)))
+          (λ e. rw (e, eqb-true j c e) (sym (at_some z) ∙ ap (λ (f : Option ℕ). one_more f k) (at_some z)))
           (λ e. rw e);
       below = λ n hk f. f;
     }
+
+-- of a name
+module _ (m : List ℕ) (k : ℕ) {name : Option Field} where
+  pub saw-none : name ≡ None → Saw (number_in name) k m m
+  unfolding seen_more
+  saw-none q = subst (λ (c : ℕ). Saw c k m m) (sym (ap number_in q)) (record {
+    long = refl;
+    more = λ hk j hj. rw (ne_eqb j 15 (λ e. absurd (omega arith)));
+    below = λ n hk f. f;
+  })
+
+  pub saw-name : {f : Field} {c : ℕ} (m' : List ℕ) → name ≡ Some f → c ≡ number f → Saw c k m m' → Saw (number_in name) k m m'
+  saw-name m' q e w = subst (λ (c : ℕ). Saw c k m m') (number_is q e) w

@@ -5,7 +5,7 @@ use mathlib.Core.List.{List, []}
 use mathlib.Core.Bool.{true}
 use Rattle.json_text.specs.Members.{Member}
 use Rattle.json_text.specs.Strings.{raw_bytes, is_plain}
-use Rattle.faults.specs.Faults.{Fault}
+use Rattle.faults.specs.declared.Fault.{Fault}
 use Rattle.fields.specs.Values.{string_bytes, members}
 use Rattle.fields.specs.Fields.{among, entry_faults}
 use Rattle.fields.proofs.Decoded.{plain-bytes}

@@ -1,29 +1,26 @@
 -- Known fields of an object, each at its first member of that name, and the faults of fields and names (paper 02, K1 and K4).
-use Rattle.std.specs.Prelude.{ℕ, suc, ◌+◌, ◌-◌, List, [], ◌∷◌, ◌++◌, Bool, true, false, not, ◌||◌, eqb}
-use Rattle.std.proofs.Math.Option.{Option, none, some}
+use Rattle.std.specs.Prelude.{ℕ, suc, ◌+◌, ◌-◌, List, [], ◌∷◌, ◌++◌, Bool, true, false, not, ◌||◌, eqb, Option, None, Some, Err, Ok}
 use Rattle.json_text.specs.Value.{value_at}
 use Rattle.json_text.specs.Members.{Member}
-use Rattle.json_text.specs.declared.Scan.TheVariants.{End, Bad}
 use Rattle.text.specs.Ids.{is_id}
 use Rattle.escapes.specs.Decode.{Decoded, whole, half}
-use Rattle.faults.specs.Faults.{Fault, wrong_kind, repeated, other_rule, ◌otherwise◌}
+use Rattle.faults.specs.declared.Fault.{Fault}
+use Rattle.faults.specs.Faults.{wrong_kind, repeated, other_rule, ◌otherwise◌}
 use Rattle.fields.specs.declared.Kind.{Kind}
 use Rattle.fields.specs.declared.Kind.TheVariants.{Text, Flag, Object, Ids, Texts}
 use Rattle.fields.specs.declared.Owner.{Owner}
-use Rattle.fields.specs.declared.Field.{Field}
-use Rattle.fields.specs.declared.Field.TheVariants.{Absent, First}
 use Rattle.fields.specs.Values.{string_bytes, is_string_at, is_object, is_array, is_true, is_flag, members, elements, decoded_at, is_named}
 use Rattle.fields.specs.Names.{is_known}
 
 -- ---- fields
 
 -- one member more of that name, its value at k: "the other rules go by the first value"
-unfoldable pub one_more : Field → ℕ → Field
-one_more Absent k = First k
-one_more (First j) k = First j
+unfoldable pub one_more : Option ℕ → ℕ → Option ℕ
+one_more None k = Some k
+one_more (Some j) k = Some j
 
 -- what members add to what was seen of a name
-unfoldable pub field_in : List ℕ → List ℕ → Field → List Member → Field
+unfoldable pub field_in : List ℕ → List ℕ → Option ℕ → List Member → Option ℕ
 field_in s name seen [] = seen
 field_in s name seen (m ∷ ms) = elim (is_named s name m) [
   | true ↦ field_in s name (one_more seen m.value) ms
@@ -31,27 +28,27 @@ field_in s name seen (m ∷ ms) = elim (is_named s name m) [
 ]
 
 -- the field of that name in the object at `at`
-unfoldable pub field : List ℕ → ℕ → List ℕ → Field
-field s at name = field_in s name Absent (members s at)
+unfoldable pub field : List ℕ → ℕ → List ℕ → Option ℕ
+field s at name = field_in s name None (members s at)
 
-unfoldable pub is_present : Field → Bool
-is_present Absent = false
-is_present (First k) = true
+unfoldable pub is_present : Option ℕ → Bool
+is_present None = false
+is_present (Some k) = true
 
 -- the string that a field holds
-unfoldable pub text_in : List ℕ → Field → Option (List ℕ)
-text_in s Absent = none
-text_in s (First k) = some (string_bytes s k)
+unfoldable pub text_in : List ℕ → Option ℕ → Option (List ℕ)
+text_in s None = None
+text_in s (Some k) = Some (string_bytes s k)
 
 -- the boolean that a field holds, with what holds where it is absent
-unfoldable pub flag_in : List ℕ → Bool → Field → Bool
-flag_in s default Absent = default
-flag_in s default (First k) = is_true s k
+unfoldable pub flag_in : List ℕ → Bool → Option ℕ → Bool
+flag_in s default None = default
+flag_in s default (Some k) = is_true s k
 
 -- the members of the object that a field holds
-unfoldable pub members_in : List ℕ → Field → List Member
-members_in s Absent = []
-members_in s (First k) = members s k
+unfoldable pub members_in : List ℕ → Option ℕ → List Member
+members_in s None = []
+members_in s (Some k) = members s k
 
 -- ---- values: "a value .. of the wrong JSON kind (its first byte)"
 
@@ -101,20 +98,20 @@ kind_faults Ids s k = array_faults id_faults s k
 kind_faults Texts s k = array_faults string_faults s k
 
 -- a field that may be absent
-unfoldable pub field_faults : Kind → List ℕ → Field → List Fault
-field_faults kind s Absent = []
-field_faults kind s (First k) = kind_faults kind s k
+unfoldable pub field_faults : Kind → List ℕ → Option ℕ → List Fault
+field_faults kind s None = []
+field_faults kind s (Some k) = kind_faults kind s k
 
 -- "a required field missing .. (place of the object's closing brace)": the closing brace of the object at `at`
 unfoldable pub close_at : List ℕ → ℕ → ℕ
-close_at s at = elim (value_at 16 s at) [ End e ↦ e - 1 | Bad e ↦ at ]
+close_at s at = elim (value_at 16 s at) [ Ok e ↦ e - 1 | Err e ↦ at ]
 
 -- ---- names
 
 -- the field's first value is the one at k
-unfoldable pub is_first : ℕ → Field → Bool
-is_first k Absent = false
-is_first k (First j) = eqb j k
+unfoldable pub is_first : ℕ → Option ℕ → Bool
+is_first k None = false
+is_first k (Some j) = eqb j k
 
 -- a member of the object at `at`, with its value at k, is the first of its name; one with half a surrogate pair repeats none
 unfoldable pub first_of : List ℕ → ℕ → ℕ → Decoded → Bool

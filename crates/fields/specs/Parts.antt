@@ -1,18 +1,16 @@
 -- What the contracts of private functions cite.
-use Rattle.std.specs.Prelude.{ℕ, ◌<◌, ◌≡◌, List, [], ◌∷◌, Bool, true, false, not, ◌||◌, cond, length, get_or, eqb}
+use Rattle.std.specs.Prelude.{ℕ, ◌<◌, ◌≡◌, List, [], ◌∷◌, Bool, true, false, not, ◌||◌, cond, length, get_or, eqb, Option, None, Some}
 use Rattle.text.specs.Ascii.{ascii}
 use Rattle.text.specs.Bytes.{eq_bytes}
 use Rattle.escapes.specs.Decode.{Decoded, is_this}
-use Rattle.faults.specs.Faults.{Fault, repeated, ◌otherwise◌}
+use Rattle.faults.specs.declared.Fault.{Fault}
+use Rattle.faults.specs.Faults.{repeated, ◌otherwise◌}
+use Rattle.fields.specs.declared.Field.{Field}
 use Rattle.fields.specs.declared.Owner.{Owner}
 use Rattle.fields.specs.declared.Owner.TheVariants.{Device, Node, Property}
-use Rattle.fields.specs.declared.Field.{Field}
 use Rattle.fields.specs.Fields.{one_more, string_faults, id_faults, unless_half}
 use Rattle.fields.specs.Names.{is_known}
-use Rattle.fields.specs.Known.{known_name, field_at}
-
-abbrev pub fault : (place number : ℕ) → Fault
-fault p n = record { place = p; number = n }
+use Rattle.fields.specs.Known.{known_name, number, field_at}
 
 -- an array's element: an ID, or a string
 unfoldable pub item_faults : Bool → List ℕ → ℕ → List Fault
@@ -58,6 +56,11 @@ names_of n = cond (eqb n 4) names4 (cond (eqb n 5) names5 (cond (eqb n 6) names6
 unfoldable pub number_of : List ℕ → ℕ
 number_of t = search (names_of (length t)) t
 
+-- the number of the field that a name names; 15 for none
+abbrev pub number_in : Option Field → ℕ
+number_in None = 15
+number_in (Some f) = number f
+
 -- a name's number is c: a known one's, 15 for another
 pub record Classified (name : Decoded) (c : ℕ) : Type 0 where
   pub low : c < 16
@@ -79,12 +82,12 @@ seen_faults owner name first i = unless_half name i (again_faults owner first i)
 
 -- ---- one member more
 
-unfoldable pub seen_more : Bool → Field → ℕ → Field
+unfoldable pub seen_more : Bool → Option ℕ → ℕ → Option ℕ
 seen_more true f k = one_more f k
 seen_more false f k = f
 
 -- of the name number c, with its value at k
 pub record Saw (c k : ℕ) (before after : List ℕ) : Type 0 where
   pub long : length after ≡ length before
-  pub more : 0 < k → (j : ℕ) → j < 16 → field_at after j ≡ seen_more (eqb j c) (field_at before j) k
+  pub more : 0 < k → (j : ℕ) → j < 15 → field_at after j ≡ seen_more (eqb j c) (field_at before j) k
   pub below : (n : ℕ) → k < n → ((j : ℕ) → get_or before j 0 < n) → (j : ℕ) → get_or after j 0 < n

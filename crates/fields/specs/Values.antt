@@ -1,19 +1,16 @@
 -- The values of a JSON text by what they hold. The whole text is judged as JSON before, so that a value's first byte tells its kind.
-use Rattle.std.specs.Prelude.{ℕ, suc, ◌+◌, ◌≡◌, List, [], Bool, true, false, ◌||◌, length, eqb}
+use Rattle.std.specs.Prelude.{ℕ, suc, ◌+◌, ◌≡◌, List, [], Bool, true, false, ◌||◌, length, eqb, Err, Ok, Result}
 use Rattle.json_text.specs.Bytes.{byte}
 use Rattle.json_text.specs.Strings.{raw_bytes}
 use Rattle.json_text.specs.Number.{is_digit}
 use Rattle.json_text.specs.Value.{value_at}
 use Rattle.json_text.specs.Members.{Member, members_at, elements_at}
-use Rattle.json_text.specs.declared.Scan.TheVariants.{End, Bad}
 use Rattle.text.specs.Bytes.{slice}
 use Rattle.escapes.specs.Decode.{Decoded, whole, half, decode, bytes_of, is_this, filled}
-use Rattle.escapes.specs.declared.Decoding.{Decoding}
-use Rattle.escapes.specs.declared.Decoding.TheVariants.{Whole, Half}
 
 -- the bytes of the value at k
 unfoldable pub value_bytes : List ℕ → ℕ → List ℕ
-value_bytes s k = elim (value_at 16 s k) [ End e ↦ slice s k e | Bad e ↦ [] ]
+value_bytes s k = elim (value_at 16 s k) [ Ok e ↦ slice s k e | Err e ↦ [] ]
 
 -- Paper 02, K4: "decoded by RFC 8259 before any rule is applied, surrogate pairs included": what the string at k writes; `raw_bytes s k` is what stands between its
 -- quotes, nothing where no string stands there
@@ -62,11 +59,11 @@ name_of s m = string_bytes s m.name
 -- ---- a string decoded into a buffer
 
 -- the length of the string at k, or the place in the text of its first half pair
-unfoldable pub decoding_at : ℕ → Decoded → Decoding
-decoding_at k (whole t) = Whole (length t)
-decoding_at k (half p) = Half (suc k + p)
+unfoldable pub decoding_at : ℕ → Decoded → Result ℕ ℕ
+decoding_at k (whole t) = Ok (length t)
+decoding_at k (half p) = Err (suc k + p)
 
 -- what is answered, and the buffer: with half a pair it is as it was
-pub record DecodesAt (s : List ℕ) (k : ℕ) (before after : List ℕ) (r : Decoding) : Type 0 where
+pub record DecodesAt (s : List ℕ) (k : ℕ) (before after : List ℕ) (r : Result ℕ ℕ) : Type 0 where
   pub answer : r ≡ decoding_at k (decoded_at s k)
   pub buffer : after ≡ filled (string_bytes s k) before

@@ -1,9 +1,9 @@
 -- A device changed in its properties, one after another.
+use Rattle.std.specs.Prelude.{Option, None, Some}
 use Prim.Native.Nat.{ℕ, zero, suc, ◌≤◌, ◌<◌, zero-le, suc-le-suc}
 use native.Mathlib.Nat.{not-suc-le-zero, le_of_suc-le-suc}
 use mathlib.Core.Path.{◌≡◌, refl, sym, ap}
 use mathlib.Core.List.{List, [], ◌∷◌, map}
-use mathlib.Core.Option.{Option, none, some}
 use lib.ListN.{length, get_or}
 use Rattle.rules.specs.Table.{Property, Description, Device, properties_of}
 use Rattle.rules.specs.Find.{in_description, in_device, change_at}
@@ -64,29 +64,29 @@ unfolding in_device in_description properties_of
 properties_in_lem f e v = go v.description
   where
     go : (y : Option Description) → properties_of (in_description f y) ≡ f (properties_of y)
-    go none = sym e
-    go (some x) = refl
+    go None = sym e
+    go (Some x) = refl
 
 pub in_device_lem : (f g : List Property → List Property) (v : Device) → f (properties_of v.description) ≡ g (properties_of v.description) → in_device f v ≡ in_device g v
 unfolding in_device in_description properties_of
 in_device_lem f g v = λ e. ap (λ (y : Option Description). with_description y v) (go v.description e)
   where
     go : (y : Option Description) → f (properties_of y) ≡ g (properties_of y) → in_description f y ≡ in_description g y
-    go none e = refl
-    go (some x) e = ap (λ (ps : List Property). some (record { root = x.root; parent = x.parent; version = x.version; properties = ps })) e
+    go None e = refl
+    go (Some x) e = ap (λ (ps : List Property). Some (record { root = x.root; parent = x.parent; version = x.version; properties = ps })) e
 
 pub in_device_twice : (f g : List Property → List Property) (v : Device) → in_device g (in_device f v) ≡ in_device (λ ps. g (f ps)) v
 unfolding in_device in_description
 in_device_twice f g v = ap (λ (y : Option Description). with_description y v) (go v.description)
   where
     go : (y : Option Description) → in_description g (in_description f y) ≡ in_description (λ ps. g (f ps)) y
-    go none = refl
-    go (some x) = refl
+    go None = refl
+    go (Some x) = refl
 
 pub in_device-not : (v : Device) → in_device (λ ps. ps) v ≡ v
 unfolding in_device in_description
 in_device-not v = ap (λ (y : Option Description). with_description y v) (go v.description)
   where
     go : (y : Option Description) → in_description (λ ps. ps) y ≡ y
-    go none = refl
-    go (some x) = refl
+    go None = refl
+    go (Some x) = refl

@@ -1,6 +1,5 @@
 -- What an image takes over from a device's room (paper 02, K2).
-use Rattle.std.specs.Prelude.{ℕ, ◌≡◌, List, length}
-use Rattle.std.proofs.Math.Option.{some}
+use Rattle.std.specs.Prelude.{ℕ, ◌≡◌, List, length, Some}
 use Rattle.description.specs.Description.{Described}
 use Rattle.rules.specs.Table.{properties_of, new_description}
 use Rattle.rules.specs.Handover.{republished}
@@ -10,4 +9,4 @@ use Rattle.device.specs.Decode.{device_of}
 -- that mean nothing
 pub record HandedOver (image old image' : List ℕ) : Type 0 where
   pub long : length image' ≡ length image
-  pub means : (x : Described) → (device_of image).description ≡ some (new_description x) → (device_of image').description ≡ some (republished (properties_of (device_of old).description) x)
+  pub means : (x : Described) → (device_of image).description ≡ Some (new_description x) → (device_of image').description ≡ Some (republished (properties_of (device_of old).description) x)

@@ -1,6 +1,5 @@
 -- What the contracts of private functions cite. No promise rests on it.
-use Rattle.std.specs.Prelude.{ℕ, ◌<◌, ◌≡◌, List, Bool, true, false, ◌&&◌, length}
-use Rattle.std.proofs.Math.Option.{Option}
+use Rattle.std.specs.Prelude.{ℕ, ◌<◌, ◌≡◌, List, Bool, true, false, ◌&&◌, length, Option}
 use Rattle.answer.specs.Answer.{Answer, refused, gives}
 use Rattle.properties.specs.Property as declaration
 use Rattle.memory.specs.Layout.{room_size}
@@ -38,17 +37,17 @@ inherits old r = inherits_from (find_property r.declared.node r.declared.id old)
 -- ---- in rooms
 
 abbrev pub keeps_value : (image : List ℕ) → shown.Property → (old : List ℕ) → shown.Property → Bool
-keeps_value image p old q = is_value_kept (declared_in image p) (property_in old q)
+keeps_value image p old q = is_value_kept (declared_in image p.declared) (property_in old q)
 
 -- a lane of the old room; its payload, if it is kept, is valid for some property
-pub record LaneHanded (m : List ℕ) (i : ℕ) (kind : LaneKind) (kept : Bool) (old : List ℕ) (lane : Lane) (m' : List ℕ) : Type 0 where
+pub record LaneHanded (m : List ℕ) (i : ℕ) (kind : LaneKind) (kept : Bool) (old : List ℕ) (lane : Option Lane) (m' : List ℕ) : Type 0 where
   pub long : length m' ≡ length m
   pub means : length m ≡ room_size → i < properties_most → (d : declaration.Property) → (kept ≡ true → still_valid d (held_in old lane) ≡ true)
       → device_of m' ≡ in_device (change_at i (handed kind kept (held_in old lane))) (device_of m)
 
 pub record LanesHanded (m : List ℕ) (i : ℕ) (p : shown.Property) (old : List ℕ) (q : shown.Property) (m' : List ℕ) : Type 0 where
   pub long : length m' ≡ length m
-  pub means : length m ≡ room_size → i < properties_most → device_of m' ≡ in_device (change_at i (takes (declared_in m p) (property_in old q))) (device_of m)
+  pub means : length m ≡ room_size → i < properties_most → device_of m' ≡ in_device (change_at i (takes (declared_in m p.declared) (property_in old q))) (device_of m)
 
 pub record PropertyHanded (m : List ℕ) (i : ℕ) (old : List ℕ) (m' : List ℕ) : Type 0 where
   pub long : length m' ≡ length m

@@ -1,18 +1,16 @@
 -- What the bytes of a room mean that were written, and that others beside them do not change it.
+use Rattle.std.specs.Prelude.{Option, None, Some, Err, Ok, Result}
 use Prim.Native.Nat.{ℕ, ◌+◌, ◌-◌, ◌≤◌, ◌<◌}
 use native.Mathlib.Omega.{arith}
 use mathlib.Core.Path.{◌≡◌, sym, ap, ◌∙◌}
 use mathlib.Core.Bool.{Bool, true, false, not}
 use mathlib.Core.List.{List, []}
-use mathlib.Core.Option.{Option, none, some}
 use lib.ListN.{length, get_or, length-take}
 use borrow.Author.Tests.{ne_eqb}
 use Rattle.text.specs.Ascii.{ascii}
 use Rattle.text.specs.Bytes.{slice}
 use Rattle.json_text.specs.Strings.{raw_bytes, is_plain}
 use Rattle.json_text.proofs.Bytes.{split}
-use Rattle.escapes.specs.declared.Decoding.{Decoding}
-use Rattle.escapes.specs.declared.Decoding.TheVariants.{Whole, Half}
 use Rattle.escapes.proofs.Theorems.{filled-length}
 use Rattle.fields.specs.Values.{string_bytes, DecodesAt}
 use Rattle.fields.proofs.Decoded.{plain-bytes, decoded-length, decoded-bytes, broken-bytes}
@@ -61,7 +59,7 @@ unfolding is_set
 is-set r at h = ap not (ne_eqb (get_or r at 0) 0 (λ e. omega arith))
 
 -- a lane whose length is 0
-pub empty-lane : (r : List ℕ) (a : ℕ) → get_or r (a + payload_at) 0 ≡ 0 → held_at r a ≡ none
+pub empty-lane : (r : List ℕ) (a : ℕ) → get_or r (a + payload_at) 0 ≡ 0 → held_at r a ≡ None
 unfolding held_at
 empty-lane r a e = rw (unset r (a + payload_at) e, held_at)
 
@@ -79,11 +77,11 @@ module _ (s : List ℕ) (k : ℕ) {m m' : List ℕ} {at most : ℕ} where
   pub texted-plain : {raw : List ℕ} {b : Bool} → raw ≡ raw_bytes s k → b ≡ is_plain raw → b ≡ true → Texted m raw at most m' → Texted m (string_bytes s k) at most m'
   texted-plain x p e = texted_as (x ∙ sym (plain-bytes s k (ap is_plain (sym x) ∙ (sym p ∙ e))))
 
-  module _ {before after : List ℕ} {r : Decoding} (w : DecodesAt s k before after r) where
-    pub texted-half : {p : ℕ} → r ≡ Half p → Texted m [] at most m' → Texted m (string_bytes s k) at most m'
+  module _ {before after : List ℕ} {r : Result ℕ ℕ} (w : DecodesAt s k before after r) where
+    pub texted-half : {p : ℕ} → r ≡ Err p → Texted m [] at most m' → Texted m (string_bytes s k) at most m'
     texted-half q = texted_as (sym (broken-bytes s k w q))
 
-    pub texted-whole : {n : ℕ} {t : List ℕ} → r ≡ Whole n → length before ≡ 64 → most ≤ 64 → t ≡ slice after 0 n → Texted m t at most m' → Texted m (string_bytes s k) at most m'
+    pub texted-whole : {n : ℕ} {t : List ℕ} → r ≡ Ok n → length before ≡ 64 → most ≤ 64 → t ≡ slice after 0 n → Texted m t at most m' → Texted m (string_bytes s k) at most m'
     texted-whole {n} {t} q l h x y = split n 64
         (λ g. texted_as (decoded-bytes s k w q (omega (arith, l)) x) y)
         (λ g.
@@ -92,37 +90,37 @@ module _ (s : List ℕ) (k : ℕ) {m m' : List ℕ} {at most : ℕ} where
         texted-long (omega (arith, front, whole_length, l)) (omega (arith, decoded-length s k w q)) y)
 
 module _ (r : List ℕ) (at most : ℕ) where
-  missing : is_set r at ≡ false → optional_at r at most ≡ none
+  missing : is_set r at ≡ false → optional_at r at most ≡ None
   unfolding optional_at
   missing e = rw (e, optional_at)
 
-  present : (t : List ℕ) → is_set r at ≡ true → text_at r at most ≡ t → optional_at r at most ≡ some t
+  present : (t : List ℕ) → is_set r at ≡ true → text_at r at most ≡ t → optional_at r at most ≡ Some t
   unfolding optional_at
-  present t e q = rw (e, optional_at) (ap some q)
+  present t e q = rw (e, optional_at) (ap Some q)
 
 pub optional_is : {m m' : List ℕ} (at most : ℕ) (o : Option (List ℕ)) → 32 ≤ most → Texted m (text_of o) at most m' → FitsIdOrNone o → optional_at m' at most ≡ o
 unfolding text_of
-optional_is {m} {m'} at most none h w f = missing m' at most (unset m' at (w.size ∙ omega arith))
-optional_is {m} {m'} at most (some u) h w f = present m' at most u (is-set m' at (omega (arith, w.size, f.some))) (w.text (omega (arith, f.short)))
+optional_is {m} {m'} at most None h w f = missing m' at most (unset m' at (w.size ∙ omega arith))
+optional_is {m} {m'} at most (Some u) h w f = present m' at most u (is-set m' at (omega (arith, w.size, f.some))) (w.text (omega (arith, f.short)))
 
 -- the kept format
-module _ (t : List ℕ) {k : Format} where
-  pub kept-bad : k ≡ F.Bad → [] ≡ text_of (kept_bytes t k)
+module _ (t : List ℕ) {k : Option Format} where
+  pub kept-bad : k ≡ None → [] ≡ text_of (kept_bytes t k)
   unfolding text_of
   kept-bad e = rw e
 
-  pub kept-given : k ≡ F.AsGiven → t ≡ text_of (kept_bytes t k)
+  pub kept-given : k ≡ Some F.AsGiven → t ≡ text_of (kept_bytes t k)
   unfolding text_of
   kept-given e = rw e
 
-  pub kept-colon : k ≡ F.Colon → ascii ":" ≡ text_of (kept_bytes t k)
+  pub kept-colon : k ≡ Some F.Colon → ascii ":" ≡ text_of (kept_bytes t k)
   unfolding text_of
   kept-colon e = rw e
 
-  pub kept-words : k ≡ F.FalseTrue → ascii "false,true" ≡ text_of (kept_bytes t k)
+  pub kept-words : k ≡ Some F.FalseTrue → ascii "false,true" ≡ text_of (kept_bytes t k)
   unfolding text_of
   kept-words e = rw e
 
-  pub kept-none : k ≡ F.NotKept → [] ≡ text_of (kept_bytes t k)
+  pub kept-none : k ≡ Some F.NotKept → [] ≡ text_of (kept_bytes t k)
   unfolding text_of
   kept-none e = rw e

@@ -1,4 +1,5 @@
 -- The head of a description.
+use Rattle.std.specs.Prelude.{Option}
 use Prim.Native.Nat.{ℕ, suc, ◌+◌, ◌^◌, ◌≤◌, ◌<◌, min}
 use native.Mathlib.Omega.{arith}
 use mathlib.Core.Path.{◌≡◌, ◌∙◌}
@@ -8,7 +9,6 @@ use Rattle.little_endian.specs.Bytes.{Stored}
 use Rattle.memory.specs.Layout.{room_size}
 use Rattle.memory.proofs.Flat.{set_same, set_other}
 use Rattle.fields.specs.Fields.{text_in}
-use Rattle.fields.specs.declared.Field.{Field}
 use Rattle.properties.specs.Property.{text_of}
 use Rattle.text.specs.Ids.{id_most}
 use Rattle.device.specs.Layout.{described_at, root_at, parent_at, version_at, count_at, properties_most}
@@ -19,7 +19,7 @@ use Rattle.imprint.proofs.Writes.{Numbered, numbered}
 use Rattle.imprint.proofs.Fields.{alike-below, wider, then, is_one, optional_is}
 
 -- root and parent
-module _ (m₀ m₁ m₂ s : List ℕ) (root parent : Field) (l : length m₀ ≡ room_size) (w₁ : Texted m₀ (text_of (text_in s root)) root_at id_most m₁) (w₂ : Texted m₁ (text_of (text_in s parent)) parent_at id_most m₂) where
+module _ (m₀ m₁ m₂ s : List ℕ) (root parent : Option ℕ) (l : length m₀ ≡ room_size) (w₁ : Texted m₀ (text_of (text_in s root)) root_at id_most m₁) (w₂ : Texted m₁ (text_of (text_in s parent)) parent_at id_most m₂) where
   pub family : Family m₀ s root parent m₂
   family = record {
     within = then (wider w₁.within root_at version_at (omega arith) (omega arith)) (wider w₂.within root_at version_at (omega arith) (omega arith));
@@ -35,7 +35,7 @@ unfolding count_in
 count_is r n e = rw e (omega arith)
 
 -- the head: one byte, root and parent, the version, one byte
-module _ (m₀ m₂ m₃ s : List ℕ) (root parent : Field) (version n c : ℕ) (l : length m₀ ≡ room_size) (w₂ : Family (set m₀ described_at 1) s root parent m₂) (v : version < 256 ^ 8) (stored : Stored m₂ version_at 8 version m₃) (q : c ≡ min n properties_most) where
+module _ (m₀ m₂ m₃ s : List ℕ) (root parent : Option ℕ) (version n c : ℕ) (l : length m₀ ≡ room_size) (w₂ : Family (set m₀ described_at 1) s root parent m₂) (v : version < 256 ^ 8) (stored : Stored m₂ version_at 8 version m₃) (q : c ≡ min n properties_most) where
   abbrev m₄ : List ℕ
   m₄ = set m₃ count_at c
 

@@ -1,11 +1,11 @@
 -- A property's record, and the records one after the other.
+use Rattle.std.specs.Prelude.{None}
 use Prim.Native.Nat.{ℕ, zero, suc, ◌+◌, ◌≤◌, ◌<◌, min}
 use native.Mathlib.Numerals.{add-one}
 use native.Mathlib.Omega.{arith}
 use native.Mathlib.Decide.{dec_lt}
 use mathlib.Core.Path.{◌≡◌, refl, sym, ap, ap₂, ◌∙◌}
 use mathlib.Core.List.{List, [], ◌∷◌, ◌++◌}
-use mathlib.Core.Option.{none}
 use lib.ListN.{length, get_or, take}
 use lib.Seq.{take-suc, take_all}
 use Rattle.memory.specs.Bytes.{tab}
@@ -78,7 +78,7 @@ module _ (m₀ m₁ m₂ m₃ m₄ s : List ℕ) (e : Entry) (a code : ℕ) (l :
   zeros : (i : ℕ) → a + lanes_at ≤ i → get_or m₄ i 0 ≡ 0
   zeros i h = w₄.within.above i (omega arith) ∙ w₃.within.above i (omega arith) ∙ w₂.within.above i (omega arith) ∙ w₁.within.above i (omega arith) ∙ z i (omega arith)
 
-  lane_is : (k : ℕ) → lanes_at ≤ k → held_at m₄ (a + k) ≡ none
+  lane_is : (k : ℕ) → lanes_at ≤ k → held_at m₄ (a + k) ≡ None
   lane_is k h = empty-lane m₄ (a + k) (zeros (a + k + payload_at) (omega arith))
 
   written_is : FitsProperty (content s e) → record_of m₄ a ≡ bare (content s e)
@@ -164,7 +164,3 @@ listed m s m' l i full e r =
       within = wider r.within records_at room_size (omega arith) (omega arith);
       rows = λ f. ap (λ (k : ℕ). tab k (λ j. record_of m' (record_at j))) (sym e) ∙ r.rows (rw c f) ∙ ap empty_lanes c;
     }
-
--- what is left to be written is blank
-pub rest-blank : {m m' : List ℕ} {a b : ℕ} → WritesWithin m a b m' → a ≤ b → Blank m a → Blank m' b
-rest-blank w l z i h = w.above i h ∙ z i (omega arith)

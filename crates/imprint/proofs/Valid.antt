@@ -1,9 +1,9 @@
 -- Every valid description fits.
+use Rattle.std.specs.Prelude.{Option, None, Some}
 use Prim.Native.Nat.{ℕ}
 use mathlib.Core.Path.{◌≡◌, refl}
 use mathlib.Core.List.{List, [], ◌∷◌}
 use mathlib.Core.Bool.{true}
-use mathlib.Core.Option.{Option, none, some}
 use Rattle.text.specs.Ids.{is_id}
 use Rattle.text.proofs.Ids.{is-id}
 use Rattle.properties.specs.Property.{Property}
@@ -15,9 +15,9 @@ use Rattle.imprint.specs.Fits.{FitsId, FitsIdOrNone, FitsProperty, FitEach, Fits
 id-fits : (t : List ℕ) → is_id t ≡ true → FitsId t
 id-fits t e = let i = is-id t e in record { some = i.some; short = i.few }
 
-optional-fits : (own : List ℕ) (o : Option (List ℕ)) → ((t : List ℕ) → o ≡ some t → Other own t) → FitsIdOrNone o
-optional-fits own none h = tt
-optional-fits own (some t) h = id-fits t (h t refl).is
+optional-fits : (own : List ℕ) (o : Option (List ℕ)) → ((t : List ℕ) → o ≡ Some t → Other own t) → FitsIdOrNone o
+optional-fits own None h = tt
+optional-fits own (Some t) h = id-fits t (h t refl).is
 
 property-fits : (p : Property) → Valid p → FitsProperty p
 property-fits p v = record { node = (id-fits p.node v.node).short; id = (id-fits p.id v.id).short; format = v.short }

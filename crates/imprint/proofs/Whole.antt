@@ -1,18 +1,17 @@
 -- The whole image: what it means, and what its bytes from the description on make of a device.
+use Rattle.std.specs.Prelude.{Option, Some}
 use Prim.Native.Nat.{ℕ, ◌+◌, ◌-◌, ◌≤◌, ◌^◌, min}
 use native.Mathlib.Omega.{arith}
 use native.Mathlib.Decide.{dec_lt}
 use mathlib.Core.Path.{◌≡◌, refl, ap, ◌∙◌}
 use mathlib.Core.Bool.{true}
 use mathlib.Core.List.{List}
-use mathlib.Core.Option.{Option, some}
 use lib.ListN.{length, get_or, take, drop, replicate, length-drop, length-replicate, get_or-replicate, get_or-eq_default}
 use lib.Seq.{get_or-drop}
 use lib.IntN.{ℤ}
 use Rattle.little_endian.specs.Bytes.{u64, put}
 use Rattle.numbers.specs.Whole.{stands}
 use Rattle.memory.specs.Layout.{room_size}
-use Rattle.fields.specs.declared.Field.{Field}
 use Rattle.properties.specs.Entries.{contents, view}
 use Rattle.description.specs.declared.Description.{Description}
 use Rattle.description.specs.Description.{Described}
@@ -42,17 +41,17 @@ zeros n i = elim (dec_lt i n) as (λ _. get_or (blank n) i 0 ≡ 0) [
 ]
 
 -- the records' place, after the head was written
-pub records-blank : (n : ℕ) {s m : List ℕ} {root parent : Field} {version k : ℕ} → Headed (blank n) s root parent version k m → Blank m records_at
+pub records-blank : (n : ℕ) {s m : List ℕ} {root parent : Option ℕ} {version k : ℕ} → Headed (blank n) s root parent version k m → Blank m records_at
 records-blank n w i h = w.within.above i (omega arith) ∙ zeros n i
 
 described : (r : List ℕ) (root parent : Option (List ℕ)) (version : ℕ) (z : ℤ) (ps : List Property) → is_set r described_at ≡ true → optional_at r root_at id_most ≡ root → optional_at r parent_at id_most ≡ parent
-    → u64 r version_at ≡ version → stands (2 ^ 63) version ≡ z → properties_in r ≡ ps → description_in r ≡ some (record { root = root; parent = parent; version = z; properties = ps })
+    → u64 r version_at ≡ version → stands (2 ^ 63) version ≡ z → properties_in r ≡ ps → description_in r ≡ Some (record { root = root; parent = parent; version = z; properties = ps })
 unfolding description_in
 described r root parent version z ps a b c d e f = rw (a, description_in) (rw (b, c, d, e, f))
 
 -- a room image, whose bytes before the description do not matter
-module _ (image : List ℕ) (y : table.Description) (l : length image ≡ room_size) (e : description_in image ≡ some y) where
-  pub image-makes : Makes described_at (drop described_at image) (with_description (some y))
+module _ (image : List ℕ) (y : table.Description) (l : length image ≡ room_size) (e : description_in image ≡ Some y) where
+  pub image-makes : Makes described_at (drop described_at image) (with_description (Some y))
   unfolding device_of
   image-makes = record {
     makes = λ r q.
@@ -97,7 +96,7 @@ module _ (m₀ m₁ m₂ s : List ℕ) (d : Description) (l : length m₀ ≡ ro
     version_is_lem : u64 m₂ version_at ≡ d.version
     version_is_lem = num-alike (alike-below w₂.within version_at 8 (omega arith) (omega (arith, long₁))) ∙ w₁.versioned
 
-    description_is : description_in m₂ ≡ some (new_description x)
+    description_is : description_in m₂ ≡ Some (new_description x)
     unfolding new_description
     description_is = described m₂ x.root x.parent d.version x.version (empty_lanes x.properties) there_is root_is parent_is version_is_lem h.version properties_are
 

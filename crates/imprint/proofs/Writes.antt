@@ -1,4 +1,5 @@
--- What the loops write.
+-- What is written.
+use Rattle.std.specs.Int.{from_bool}
 use Prim.Native.Nat.{ℕ, suc, ◌+◌, ◌^◌, ◌≤◌, ◌<◌, min}
 use native.Mathlib.Omega.{arith}
 use mathlib.Core.Path.{◌≡◌, refl, sym, ap, ◌∙◌}
@@ -16,7 +17,7 @@ use Rattle.patch.proofs.Written.{number-back}
 use Rattle.imprint.specs.Parts.{WritesWithin, Texted, Traits, flag}
 
 -- a length byte, then bytes
-module _ (m t m' : List ℕ) (at most n i : ℕ) (e : n ≡ min (length t) most) (l : at + suc most ≤ length m) (a : n ≤ i) (b : i ≤ n) (o : Over (set m at n) (λ k. get_or t k 0) (at + 1) i m') where
+module _ (m t m' : List ℕ) (at most n : ℕ) (e : n ≡ min (length t) most) (l : at + suc most ≤ length m) (o : Over (set m at n) (λ k. get_or t k 0) (at + 1) n m') where
   long : length m' ≡ length m
   long = o.kept ∙ length-set m at n
 
@@ -89,13 +90,10 @@ module _ (m : List ℕ) (at code settable retained : ℕ) (l : at + format_at �
     retained = set_same two (at + retained_at) retained (omega (arith, length-set one (at + settable_at) settable, length-set m (at + datatype_code_at) code));
   }
 
-pub flag_yes : (b : Bool) → b ≡ true → 1 ≡ flag b
+pub flag_is : (b : Bool) → from_bool b ≡ flag b
 unfolding flag
-flag_yes b e = rw e
-
-pub flag_no : (b : Bool) → b ≡ false → 0 ≡ flag b
-unfolding flag
-flag_no b e = rw e
+flag_is true = refl
+flag_is false = refl
 
 pub traits : (m : List ℕ) (at a b c b' c' : ℕ) → at + format_at ≤ length m → b ≡ b' → c ≡ c'
     → Traits m at a b' c' (set (set (set m (at + datatype_code_at) a) (at + settable_at) b) (at + retained_at) c)

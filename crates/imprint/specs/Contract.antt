@@ -1,6 +1,5 @@
 -- What the image of a room promises.
-use Rattle.std.specs.Prelude.{ℕ, ◌≡◌, List, drop}
-use Rattle.std.proofs.Math.Option.{some}
+use Rattle.std.specs.Prelude.{ℕ, ◌≡◌, List, drop, Some}
 use Rattle.answer.specs.Answer.{gives}
 use Rattle.description.specs.declared.Description.{Description}
 use Rattle.description.specs.Description.{Described}
@@ -15,4 +14,4 @@ use Rattle.imprint.specs.Fits.{FitsRoom}
 -- Free: the bytes before them; all of the image of a description that is not taken, or that does not fit (every valid one fits: proofs/Theorems);
 -- and what means nothing in a room (bytes behind a length, between head and records, behind the last record and behind each one's lanes)
 abbrev pub Imprinted : List ℕ → Description → List ℕ → Type 0
-Imprinted s d image = (x : Described) → meaning s d ≡ gives x → FitsRoom x → Makes described_at (drop described_at image) (with_description (some (new_description x)))
+Imprinted s d image = (x : Described) → meaning s d ≡ gives x → FitsRoom x → Makes described_at (drop described_at image) (with_description (Some (new_description x)))

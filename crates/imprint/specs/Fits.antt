@@ -1,6 +1,5 @@
 -- What a device's room has space for. Every valid description fits.
-use Rattle.std.specs.Prelude.{ℕ, ◌≤◌, List, [], ◌∷◌, length}
-use Rattle.std.proofs.Math.Option.{Option, none, some}
+use Rattle.std.specs.Prelude.{ℕ, ◌≤◌, List, [], ◌∷◌, length, Option, None, Some}
 use Rattle.properties.specs.Property.{Property}
 use Rattle.description.specs.Description.{Described}
 use Rattle.text.specs.Ids.{id_most}
@@ -13,8 +12,8 @@ pub record FitsId (t : List ℕ) : Type 0 where
 
 -- "its root, parent .., or none"
 abbrev pub FitsIdOrNone : Option (List ℕ) → Type 0
-FitsIdOrNone none = Unit {0}
-FitsIdOrNone (some t) = FitsId t
+FitsIdOrNone None = Unit {0}
+FitsIdOrNone (Some t) = FitsId t
 
 -- "Formats, at most 64 bytes where kept"
 pub record FitsProperty (p : Property) : Type 0 where

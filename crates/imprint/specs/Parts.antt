@@ -1,11 +1,9 @@
 -- What the private functions write, for their contracts only.
-use Rattle.std.specs.Prelude.{ℕ, suc, ◌+◌, ◌≤◌, ◌<◌, min, ◌≡◌, Bool, true, cond, List, length, get_or, take}
-use Rattle.std.proofs.Math.Option.{none}
+use Rattle.std.specs.Prelude.{ℕ, suc, ◌+◌, ◌≤◌, ◌<◌, min, ◌≡◌, Bool, true, cond, List, length, get_or, take, None, Option}
 use Rattle.little_endian.specs.Bytes.{u64}
 use Rattle.memory.specs.Bytes.{tab}
 use Rattle.memory.specs.Layout.{room_size}
 use Rattle.fields.specs.Fields.{text_in}
-use Rattle.fields.specs.declared.Field.{Field}
 use Rattle.properties.specs.declared.Entry.{Entry}
 use Rattle.properties.specs.declared.Entries.{Entries}
 use Rattle.properties.specs.Property as declaration
@@ -44,7 +42,7 @@ Blank m a = (i : ℕ) → a ≤ i → get_or m i 0 ≡ 0
 
 -- a property, its lanes empty
 abbrev pub bare : declaration.Property → Property
-bare p = record { declared = p; value = none; target = none; asked = none }
+bare p = record { declared = p; value = None; target = None; asked = None }
 
 pub record Recorded (m s : List ℕ) (e : Entry) (a : ℕ) (m' : List ℕ) : Type 0 where
   pub within : WritesWithin m a (a + record_size) m'
@@ -57,13 +55,13 @@ pub record Listed (m s : List ℕ) (l : Entries) (m' : List ℕ) : Type 0 where
       → tab (min l.n properties_most) (λ i. record_of m' (record_at i)) ≡ empty_lanes (contents s (take l.n l.items))
 
 -- root and parent
-pub record Family (m s : List ℕ) (root parent : Field) (m' : List ℕ) : Type 0 where
+pub record Family (m s : List ℕ) (root parent : Option ℕ) (m' : List ℕ) : Type 0 where
   pub within : WritesWithin m root_at version_at m'
   pub rooted : FitsIdOrNone (text_in s root) → optional_at m' root_at id_most ≡ text_in s root
   pub parented : FitsIdOrNone (text_in s parent) → optional_at m' parent_at id_most ≡ text_in s parent
 
 -- the head of a description with n properties
-pub record Headed (m s : List ℕ) (root parent : Field) (version n : ℕ) (m' : List ℕ) : Type 0 where
+pub record Headed (m s : List ℕ) (root parent : Option ℕ) (version n : ℕ) (m' : List ℕ) : Type 0 where
   pub within : WritesWithin m described_at (suc count_at) m'
   pub there : is_set m' described_at ≡ true
   pub rooted : FitsIdOrNone (text_in s root) → optional_at m' root_at id_most ≡ text_in s root

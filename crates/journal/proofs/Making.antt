@@ -13,9 +13,6 @@ use Rattle.journal.proofs.Steps.{over-lent}
 use Rattle.journal.proofs.Alter.{changed}
 use Rattle.journal.proofs.Whole.{committed}
 
-pub able-less : (m : List ℕ) (from to n offset len : ℕ) → Able m from to n offset len → Able m from to 0 offset len
-able-less m from to n offset len a = record { header = a.header; fits = omega (arith, a.fits); there = a.there }
-
 module _ (m m₁ : List ℕ) (from to offset start : ℕ) (bytes head : List ℕ) (a : Able m from to (get_or head 0 0) offset (length bytes))
     (x : Saved m (saving m from to offset (length bytes)) m₁) (es : start ≡ room_at (slot m₁ from)) where
   pub able₁ : Able m₁ from to (get_or head 0 0) offset (length bytes)

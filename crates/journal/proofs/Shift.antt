@@ -1,74 +1,80 @@
--- An element on its way: a gap that goes from one place of a list to another.
-use Prim.Native.Nat.{ℕ, suc, ◌+◌, ◌-◌, ◌<◌}
-use native.Mathlib.Numerals.{add-one}
+-- An element taken out and put in elsewhere: those from one place to the other, rotated by one.
+use Prim.Native.Nat.{ℕ, suc, ◌+◌, ◌-◌, ◌≤◌, ◌<◌}
 use native.Mathlib.Omega.{arith}
-use native.Mathlib.Decide.{dec_lt}
-use mathlib.Core.Path.{◌≡◌, sym, ap, ap₂, ◌∙◌}
-use mathlib.Core.List.{List}
-use lib.ListN.{length, get_or, set}
+use mathlib.Core.Path.{◌≡◌, refl, sym, ap, ap₂, ◌∙◌}
+use mathlib.Core.List.{List, [], ◌∷◌, ◌++◌, append_assoc}
+use lib.ListN.{length, get_or, take, drop, take-append-drop, length-append, length-drop}
+use lib.Seq.{drop-cons, drop-drop, take_at, drop_at, length-take-le}
 use Rattle.memory.specs.Bytes.{remove_at, insert_at, move}
-use Rattle.journal.specs.Parts.{Toward}
-use Rattle.memory.proofs.Lists.{length-remove_at, length-insert_at, insert_removed, insert_slide, set_inserted, get_d_insert_below, get_d_insert_above}
 
--- the element at `from` of l is out, and what stands at t is of no use
-pub record Gap (l : List ℕ) (from t : ℕ) (order : List ℕ) : Type 0 where
-  pub waste : ℕ
-  pub is : order ≡ insert_at t waste (remove_at from l)
-  pub inside : t < length l
+insert-behind : (q s : List ℕ) (x : ℕ) → insert_at (length q) x (q ++ s) ≡ q ++ (x ∷ s)
+unfolding insert_at
+insert-behind [] s x = refl
+insert-behind (y ∷ q) s x = ap (λ (l : List ℕ). y ∷ l) (insert-behind q s x)
 
-pub gap-none : (l : List ℕ) (from : ℕ) → from < length l → Gap l from from l
-gap-none l from h = record { waste = get_or l from 0; is = sym (insert_removed from 0 l h); inside = h }
+remove-behind : (q s : List ℕ) (x : ℕ) → remove_at (length q) (q ++ (x ∷ s)) ≡ q ++ s
+unfolding remove_at
+remove-behind [] s x = refl
+remove-behind (y ∷ q) s x = ap (λ (l : List ℕ). y ∷ l) (remove-behind q s x)
 
-module _ (l order : List ℕ) (from t : ℕ) (h : from < length l) (g : Gap l from t order) where
-  r : List ℕ
-  r = remove_at from l
+get-behind : (q s : List ℕ) (x : ℕ) → get_or (q ++ (x ∷ s)) (length q) 0 ≡ x
+get-behind [] s x = refl
+get-behind (y ∷ q) s x = get-behind q s x
 
-  size : suc (length r) ≡ length l
-  unfolding r
-  size = length-remove_at from l h
+move-up : (p q s : List ℕ) (x : ℕ) → move 0 (length p) (length (p ++ q)) (p ++ (x ∷ (q ++ s))) ≡ p ++ (q ++ (x ∷ s))
+unfolding move insert_at remove_at
+move-up [] q s x = insert-behind q s x
+move-up (y ∷ p) q s x = ap (λ (l : List ℕ). y ∷ l) (move-up p q s x)
 
-  pub gap_length : length order ≡ length l
-  unfolding r
-  gap_length = ap length g.is ∙ length-insert_at t g.waste (remove_at from l) ∙ size
+move-down : (p q s : List ℕ) (x : ℕ) → move 0 (length (p ++ q)) (length p) (p ++ (q ++ (x ∷ s))) ≡ p ++ (x ∷ (q ++ s))
+unfolding move insert_at remove_at
+move-down [] q s x = ap₂ (λ (y : ℕ) (l : List ℕ). y ∷ l) (get-behind q s x) (remove-behind q s x)
+move-down (y ∷ p) q s x = ap (λ (l : List ℕ). y ∷ l) (move-down p q s x)
 
-  above : t < length r → set order t (get_or order (suc t) 0) ≡ insert_at (suc t) (get_or r t 0) r
-  unfolding r
-  above q =
-      ap₂ (λ (o : List ℕ) (x : ℕ). set o t x) g.is (ap (λ (o : List ℕ). get_or o (suc t) 0) g.is ∙ get_d_insert_above t t g.waste 0 r (omega arith) (omega arith))
-      ∙ set_inserted t g.waste (get_or r t 0) r (omega arith)
-      ∙ insert_slide t 0 r q
+module _ (l ys : List ℕ) (from to n : ℕ) where
+  pub rotated-left : from < to → to < length l → n ≡ to + 1 - from → ys ≡ drop 1 (take n (drop from l)) ++ take 1 (take n (drop from l))
+      → take from l ++ (ys ++ drop n (drop from l)) ≡ move 0 from to l
+  rotated-left a b m e =
+      let p : List ℕ = take from l in
+      let r : List ℕ = drop (suc from) l in
+      let q : List ℕ = take (to - from) r in
+      let s : List ℕ = drop (to - from) r in
+      let x : ℕ = get_or l from 0 in
+      let d : drop from l ≡ x ∷ r = drop-cons l from 0 (omega arith) in
+      let m' : n ≡ suc (to - from) = omega arith in
+      let lp : length p ≡ from = length-take-le from l (omega arith) in
+      let lq : length q ≡ to - from = length-take-le (to - from) r (rw (length-drop (suc from) l) (omega arith)) in
+      let lpq : length (p ++ q) ≡ to = rw length-append (omega arith) in
+      let t : take n (drop from l) ≡ x ∷ q = ap₂ (λ (i : ℕ) (z : List ℕ). take i z) m' d in
+      let u : drop n (drop from l) ≡ s = ap₂ (λ (i : ℕ) (z : List ℕ). drop i z) m' d in
+      let y : ys ≡ q ++ (x ∷ []) = e ∙ ap (λ (z : List ℕ). drop 1 z ++ take 1 z) t in
+      let w : l ≡ p ++ (x ∷ (q ++ s)) = sym (take-append-drop from l) ∙ ap (λ (z : List ℕ). p ++ z) (d ∙ ap (λ (z : List ℕ). x ∷ z) (sym (take-append-drop (to - from) r))) in
+      ap₂ (λ (z v : List ℕ). p ++ (z ++ v)) y u ∙ ap (λ (z : List ℕ). p ++ z) (append_assoc q (x ∷ []) s)
+      ∙ sym (move-up p q s x) ∙ ap₂ (λ (i j : ℕ). move 0 i j (p ++ (x ∷ (q ++ s)))) lp lpq ∙ ap (move 0 from to) (sym w)
 
-  below : (s : ℕ) → t ≡ suc s → s < length r → set order t (get_or order s 0) ≡ insert_at s (get_or r s 0) r
-  unfolding r
-  below s e q =
-      ap₂ (λ (o : List ℕ) (x : ℕ). set o t x) g.is (ap (λ (o : List ℕ). get_or o s 0) g.is ∙ get_d_insert_below t s g.waste 0 r (omega arith) (omega arith))
-      ∙ set_inserted t g.waste (get_or r s 0) r (omega arith)
-      ∙ ap (λ (k : ℕ). insert_at k (get_or r s 0) r) e
-      ∙ sym (insert_slide s 0 r q)
-
-  -- one place on
-  pub gap_on : (to s : ℕ) → (t ≡ to → ⊥) → to < length l → Toward t to s → (s < length l) × Gap l from s (set order t (get_or order s 0))
-  unfolding r
-  gap_on to s n k w = elim (dec_lt t to) as (λ _. (s < length l) × Gap l from s (set order t (get_or order s 0))) [
-    | yes q ↦ (let e : s ≡ suc t = w.up q ∙ add-one t in
-        let f : t < length r = omega (arith, size) in
-        (omega arith, record { waste = get_or r t 0; is = ap (λ (x : ℕ). set order t (get_or order x 0)) e ∙ above f ∙ ap (λ (x : ℕ). insert_at x (get_or r t 0) r) (sym e); inside = omega arith }))
-    | no q ↦ (let q' : to < t = omega arith in
-        let e : t ≡ suc s = omega (arith, w.down q') in
-        let f : s < length r = omega (arith, size, g.inside) in
-        (omega arith, record { waste = get_or r s 0; is = below s e f; inside = omega arith }))
-  ]
-
-  -- there
-  pub gap-filled : (to x : ℕ) → t ≡ to → x ≡ get_or l from 0 → set order to x ≡ move 0 from to l
-  unfolding r move
-  gap-filled to x e q =
-      ap₂ (λ (o : List ℕ) (y : ℕ). set o to y) g.is q
-      ∙ ap (λ (k : ℕ). set (insert_at k g.waste r) to (get_or l from 0)) e
-      ∙ set_inserted to g.waste (get_or l from 0) r (omega (arith, size, g.inside))
-
-pub toward-less : (t to s : ℕ) → (t ≡ to → ⊥) → Toward t to s → (to - s) + (s - to) < (to - t) + (t - to)
-toward-less t to s n w = elim (dec_lt t to) as (λ _. (to - s) + (s - to) < (to - t) + (t - to)) [
-  | yes q ↦ omega (arith, w.up q)
-  | no q ↦ (let q' : to < t = omega arith in omega (arith, w.down q'))
-]
+  pub rotated-right : to ≤ from → from < length l → n ≡ from + 1 - to
+      → ys ≡ drop (length (take n (drop to l)) - 1) (take n (drop to l)) ++ take (length (take n (drop to l)) - 1) (take n (drop to l))
+      → take to l ++ (ys ++ drop n (drop to l)) ≡ move 0 from to l
+  rotated-right a b m e =
+      let p : List ℕ = take to l in
+      let r : List ℕ = drop to l in
+      let q : List ℕ = take (from - to) r in
+      let x : ℕ = get_or l from 0 in
+      let s : List ℕ = drop (suc from) l in
+      let z : List ℕ = q ++ (x ∷ []) in
+      let k : to + (from - to) ≡ from = omega arith in
+      let g : drop (from - to) r ≡ x ∷ s = drop-drop (from - to) to l ∙ ap (λ (i : ℕ). drop i l) k ∙ drop-cons l from 0 b in
+      let c : r ≡ q ++ (x ∷ s) = sym (take-append-drop (from - to) r) ∙ ap (λ (v : List ℕ). q ++ v) g in
+      let c' : r ≡ z ++ s = c ∙ sym (append_assoc q (x ∷ []) s) in
+      let lp : length p ≡ to = length-take-le to l (omega arith) in
+      let lq : length q ≡ from - to = length-take-le (from - to) r (rw (length-drop to l) (omega arith)) in
+      let lpq : length (p ++ q) ≡ from = rw length-append (omega arith) in
+      let lz : length z ≡ n = rw length-append (omega arith) in
+      let last : length q ≡ length z - 1 = omega arith in
+      let t : take n r ≡ z = ap (take n) c' ∙ take_at z s n lz in
+      let u : drop n r ≡ s = ap (drop n) c' ∙ drop_at z s n lz in
+      let y : ys ≡ (x ∷ []) ++ q = e ∙ ap (λ (v : List ℕ). drop (length v - 1) v ++ take (length v - 1) v) t
+      ∙ ap₂ (λ (v v' : List ℕ). v ++ v') (drop_at q (x ∷ []) (length z - 1) last) (take_at q (x ∷ []) (length z - 1) last) in
+      let w : l ≡ p ++ (q ++ (x ∷ s)) = sym (take-append-drop to l) ∙ ap (λ (v : List ℕ). p ++ v) c in
+      ap₂ (λ (v v' : List ℕ). p ++ (v ++ v')) y u
+      ∙ sym (move-down p q s x) ∙ ap₂ (λ (i j : ℕ). move 0 i j (p ++ (q ++ (x ∷ s)))) lpq lp ∙ ap (move 0 from to) (sym w)

@@ -1,5 +1,5 @@
 -- What the private functions do, for their contracts only.
-use Rattle.std.specs.Prelude.{ℕ, suc, ◌+◌, ◌-◌, ◌≤◌, ◌<◌, ◌≡◌, List, ◌∷◌, length, get_or, take, eqb}
+use Rattle.std.specs.Prelude.{ℕ, suc, ◌+◌, ◌≤◌, ◌<◌, ◌≡◌, List, ◌∷◌, length, get_or, take, eqb}
 use Rattle.little_endian.specs.Bytes.{u16}
 use Rattle.memory.specs.Bytes.{span, move}
 use Rattle.memory.specs.Layout.{room_size, most, mark, mark_at, image_at, domain_at, domain_most, room_at, head_at, head_size, order_at, capacity, depth, domain_length, size, slot, from_of, entry_size}
@@ -21,11 +21,6 @@ pub record Settled (m head : List ℕ) (d from to : ℕ) (m' : List ℕ) : Type 
   pub moved : span m' order_at d ≡ move 0 from to (span m order_at d)
   pub below : (i : ℕ) → i < head_at → get_or m' i 0 ≡ get_or m i 0
   pub above : (i : ℕ) → order_at + d ≤ i → get_or m' i 0 ≡ get_or m i 0
-
--- r is beside t, on the way to another place
-pub record Toward (t to r : ℕ) : Type 0 where
-  pub up : t < to → r ≡ t + 1
-  pub down : to < t → r ≡ t - 1
 
 -- the place after h, of j
 abbrev pub turn : ℕ → ℕ → ℕ

@@ -4,7 +4,7 @@ ghost use Rattle.memory.specs.Layout.{image_at};
 ghost use Rattle.journal.specs.Contract.{opens};
 ghost use Rattle.journal.specs.Parts.{Opens, Marked, Laid};
 
-use crate::bytes::{clear, low, number, write};
+use crate::bytes::{clear, number, write};
 use memory::{
     CAPACITY, DEPTH, DOMAIN, DOMAIN_LENGTH, DOMAIN_MOST, ENTRIES, MARK, MARK_AT, MOST, ORDER, ROOM,
 };
@@ -12,22 +12,12 @@ use memory::{
 pub(crate) fn openable(n: usize, d: usize, j: usize, size: usize) -> bool
     ensures { result ≡ opens n d j size }
 {
-    if d < 1 {
-        return false;
-    }
-    if MOST < d {
-        return false;
-    }
-    if MOST < j {
-        return false;
-    }
-    if n < 1 {
-        return false;
-    }
-    if DOMAIN_MOST < n {
-        return false;
-    }
-    ROOM + ROOM * d + ROOM * j <= size
+    1 <= d
+        && d <= MOST
+        && j <= MOST
+        && 1 <= n
+        && n <= DOMAIN_MOST
+        && ROOM + ROOM * d + ROOM * j <= size
 }
 
 // The header's single bytes, all others 0.
@@ -37,9 +27,9 @@ fn mark(mem: &mut [u8], n: usize, d: usize, j: usize)
 {
     clear(&mut mem[0..ROOM]);
     mem[MARK_AT] = MARK;
-    mem[CAPACITY] = low(d);
-    mem[DEPTH] = low(j);
-    mem[DOMAIN_LENGTH] = low(n);
+    mem[CAPACITY] = d as u8;
+    mem[DEPTH] = j as u8;
+    mem[DOMAIN_LENGTH] = n as u8;
 }
 
 // The whole header of memory with no device.

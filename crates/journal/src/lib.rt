@@ -9,7 +9,7 @@ mod bytes;
 mod fresh;
 mod ring;
 
-use bytes::{wide, write};
+use bytes::write;
 use fresh::{lay, openable};
 use memory::{DEPTH, HEAD_SIZE, NEXT, ROOM, STEPS, able, header, room_start};
 use ring::{place_before, ready, replay, save, set_ring, settle};
@@ -50,7 +50,7 @@ pub fn undo(mem: &mut [u8]) -> bool
         return false;
     }
     let p = place_before(mem[NEXT], mem[DEPTH]);
-    if !ready(mem, wide(p)) {
+    if !ready(mem, usize::from(p)) {
         return false;
     }
     set_ring(mem, p, n - 1);

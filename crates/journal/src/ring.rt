@@ -5,7 +5,7 @@ ghost use Rattle.memory.specs.State.{place, entry};
 ghost use Rattle.journal.specs.Parts.{Settled, Noted, Saved, Ready, Changed, turn, saving};
 ghost use Rattle.memory.specs.Sound.{Header, Able};
 
-use crate::bytes::{byte_at, copy, head_at, number_at, shift, wide, write};
+use crate::bytes::{byte_at, copy, head_at, number_at, shift, write};
 use memory::{
     CAPACITY, DEPTH, ENTRIES, ENTRY_SIZE, HEAD, HEAD_SIZE, NEXT, ORDER, ROOM, STEPS, room_start,
 };
@@ -28,7 +28,7 @@ pub(crate) fn one_more(n: u8, j: u8) -> u8
     requires { (n ≤ j) × (j ≤ most) }
     ensures { result ≡ min j (suc n) }
 {
-    if n < j { n + 1 } else { n }
+    j.min(n + 1)
 }
 
 pub(crate) fn set_ring(mem: &mut [u8], h: u8, n: u8)
@@ -58,9 +58,9 @@ pub(crate) fn settle(mem: &mut [u8], from: u8, to: u8, head: &[u8; HEAD_SIZE])
     requires mem_in_bounds { order_at + capacity mem.old ≤ length mem.old }
     ensures { Settled mem.old head.now (capacity mem.old) from to mem.new }
 {
-    let end = ORDER + wide(mem[CAPACITY]);
-    let a = wide(from);
-    let b = wide(to);
+    let end = ORDER + usize::from(mem[CAPACITY]);
+    let a = usize::from(from);
+    let b = usize::from(to);
     write(mem, head, HEAD);
     shift(&mut mem[ORDER..end], a, b);
 }
@@ -70,7 +70,7 @@ fn image_start(mem: &[u8], p: u8) -> usize
     requires { room_size ≤ length mem.now }
     ensures { result ≡ image_at (capacity mem.now) p }
 {
-    ROOM + ROOM * wide(mem[CAPACITY]) + ROOM * wide(p)
+    ROOM + ROOM * usize::from(mem[CAPACITY]) + ROOM * usize::from(p)
 }
 
 // Saves what undoes a change, at the ring's next place; the oldest entry gives way when all are in use.
@@ -87,7 +87,8 @@ pub(crate) fn save(mem: &mut [u8], from: u8, to: u8, offset: usize, len: usize)
     let at = room_start(mem, from) + offset;
     let image = image_start(mem, h);
     copy(mem, at, image, len);
-    note(mem, ENTRIES + ENTRY_SIZE * wide(h), from, to, offset, len);
+    let entry = ENTRIES + ENTRY_SIZE * usize::from(h);
+    note(mem, entry, from, to, offset, len);
     set_ring(mem, next_place(h, j), one_more(n, j));
 }
 
@@ -104,7 +105,7 @@ pub(crate) fn replay(mem: &mut [u8], p: u8)
     requires { (p < depth mem.old) × Header mem.old × Ready mem.old p }
     ensures { Changed mem.old (entry mem.old p) mem.new }
 {
-    let a = ENTRIES + ENTRY_SIZE * wide(p);
+    let a = ENTRIES + ENTRY_SIZE * usize::from(p);
     let from = place_at(mem, a);
     let to = place_at(mem, a + 1);
     let offset = number_at(mem, a + 2, ROOM);
@@ -122,5 +123,5 @@ pub(crate) fn ready(mem: &[u8], p: usize) -> bool
     ensures { (result ≡ true → Ready mem.now p) × (result ≡ false → Ready mem.now p → ⊥) }
 {
     let from = place_at(mem, ENTRIES + ENTRY_SIZE * p);
-    mem[ORDER + wide(from)] < mem[CAPACITY]
+    mem[ORDER + usize::from(from)] < mem[CAPACITY]
 }

@@ -1,16 +1,8 @@
 // Where a text is wrong that is not JSON, too deep or too long.
 #![tactic(auto)]
 
-ghost use Rattle.std.specs.Prelude.{◌≡◌, min};
+ghost use Rattle.std.specs.Prelude.{◌≡◌};
 ghost use Rattle.json_grammar.specs.Place.{json_place, fault_place};
-
-use json_text::Scan;
-
-fn smaller(a: usize, b: usize) -> usize
-    ensures { result ≡ min a b }
-{
-    if a <= b { a } else { b }
-}
 
 // The first byte at which the text cannot go on as JSON nested at most 16 deep; its length where there is none.
 fn json_place(s: &[u8]) -> usize
@@ -18,8 +10,8 @@ fn json_place(s: &[u8]) -> usize
 {
     let mut none = [0u16; 1];
     match json_text::mark(s, &mut none) {
-        Scan::Bad(p) => p,
-        Scan::End(e) => e,
+        Err(p) => p,
+        Ok(e) => e,
     }
 }
 
@@ -29,5 +21,5 @@ pub fn place(s: &[u8]) -> usize
     ensures { result ≡ fault_place s.now }
 {
     let t = text::slice(s, 0, 8192);
-    smaller(json_place(t), text::utf8_place(t))
+    json_place(t).min(text::utf8_place(t))
 }

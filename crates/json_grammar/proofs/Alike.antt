@@ -1,4 +1,5 @@
 -- A scan looks at no byte past the place that it answers: texts that begin alike, to a place and the byte there, are read alike to it.
+use Rattle.std.specs.Prelude.{Err, Ok, Result}
 use Prim.Native.Nat.{ℕ, zero, suc, ◌+◌, ◌≤◌, ◌<◌}
 use native.Mathlib.Omega.{arith}
 use mathlib.Core.Path.{◌≡◌, refl, sym, ap, ◌∙◌}
@@ -12,8 +13,6 @@ use Rattle.json_text.specs.Bytes.{byte, run, past, is_ws, ws, word, and_then}
 use Rattle.json_text.specs.Strings.{text_step, text, string_at}
 use Rattle.json_text.specs.Number.{is_digit, digits_end, optional, is_minus, is_sign, some_digits, int_at, frac_at, is_exp, exp_at, number_at}
 use Rattle.json_text.specs.Value.{Kind, bracket, brace, quote, true_word, false_word, null_word, other, kind_of, after, series, list_of, array_of, colon, key_at, member_of, object_of, value_of, value_at, at_end}
-use Rattle.json_text.specs.declared.Scan.{Scan}
-use Rattle.json_text.specs.declared.Scan.TheVariants.{End, Bad}
 use Rattle.json_text.specs.declared.string.State.{State}
 use Rattle.json_text.specs.declared.string.State.TheVariants.{Plain}
 use Rattle.json_text.specs.declared.string.Move.{Move}
@@ -83,33 +82,33 @@ module _ (t u : List ℕ) where
   }
 
 -- by cases on one test, which is the same in both
-abbrev When : ℕ → Scan → Scan → Type 0
+abbrev When : ℕ → Result ℕ ℕ → Result ℕ ℕ → Type 0
 When n q r = reach_of q < n → r ≡ q
 
-if-alike : (n : ℕ) (a b : Bool) (x y v w : Scan) → b ≡ a → When n x v → When n y w → When n (elim a as (λ k. Scan) [ true ↦ x | false ↦ y ]) (elim b as (λ k. Scan) [ true ↦ v | false ↦ w ])
+if-alike : (n : ℕ) (a b : Bool) (x y v w : Result ℕ ℕ) → b ≡ a → When n x v → When n y w → When n (elim a as (λ k. (Result ℕ ℕ)) [ true ↦ x | false ↦ y ]) (elim b as (λ k. (Result ℕ ℕ)) [ true ↦ v | false ↦ w ])
 if-alike n true true x y v w e f g h = f h
 if-alike n false false x y v w e f g h = g h
 if-alike n true false x y v w e f g h = let z : ◌≡◌ {A = ℕ} 0 1 = cc in absurd (omega arith)
 if-alike n false true x y v w e f g h = let z : ◌≡◌ {A = ℕ} 0 1 = cc in absurd (omega arith)
 
 module _ (n : ℕ) (s r : List ℕ) (a : BeginAlike n s r) where
-  abbrev Same : (ℕ → Scan) → (ℕ → Scan) → Type 0
+  abbrev Same : (ℕ → Result ℕ ℕ) → (ℕ → Result ℕ ℕ) → Type 0
   Same k l = (i : ℕ) → When n (k i) (l i)
 
-  test : (p : ℕ → Bool) (at : ℕ) (q : Scan) → StopsWithin s at q → reach_of q < n → p (byte r at) ≡ p (byte s at)
+  test : (p : ℕ → Bool) (at : ℕ) (q : Result ℕ ℕ) → StopsWithin s at q → reach_of q < n → p (byte r at) ≡ p (byte s at)
   test p at q w h = ap p (a.bytes at (omega arith))
 
-  then_same : (q v : Scan) (k l : ℕ → Scan) → ((e : ℕ) → StopsWithin s e (k e)) → When n q v → ((e : ℕ) → reach_of q ≤ e → When n (k e) (l e)) → When n (and_then q k) (and_then v l)
+  then_same : (q v : Result ℕ ℕ) (k l : ℕ → Result ℕ ℕ) → ((e : ℕ) → StopsWithin s e (k e)) → When n q v → ((e : ℕ) → reach_of q ≤ e → When n (k e) (l e)) → When n (and_then q k) (and_then v l)
   unfolding and_then
-  then_same (End e) v k l w f g h = let z = w e in rw (f (omega arith)) (g e (omega arith) h)
-  then_same (Bad e) v k l w f g h = rw (f h)
+  then_same (Ok e) v k l w f g h = let z = w e in rw (f (omega arith)) (g e (omega arith) h)
+  then_same (Err e) v k l w f g h = rw (f h)
 
   ws-same : (i : ℕ) → ws s i < n → ws r i ≡ ws s i
   unfolding ws
   ws-same i h = a.runs is_ws i h
 
   -- a scan from past white space
-  from-ws : (k l : ℕ → Scan) → ((i : ℕ) → StopsWithin s i (k i)) → Same k l → (at : ℕ) → When n (k (ws s at)) (l (ws r at))
+  from-ws : (k l : ℕ → Result ℕ ℕ) → ((i : ℕ) → StopsWithin s i (k i)) → Same k l → (at : ℕ) → When n (k (ws s at)) (l (ws r at))
   from-ws k l w f at h = let z = w (ws s at) in rw (ws-same at (omega arith)) (f (ws s at) h)
 
   string-same : Same (string_at s) (string_at r)
@@ -117,15 +116,15 @@ module _ (n : ℕ) (s r : List ℕ) (a : BeginAlike n s r) where
   string-same at h = if-alike n (eqb (byte s at) 34) (eqb (byte r at) 34) _ _ _ _ (test (λ b. eqb b 34) at _ (string_stops s at) h) (a.texts Plain (at + 1)) (λ k. refl) h
 
   -- numbers
-  digits_same : (i : ℕ) → When n (End (digits_end s i)) (End (digits_end r i))
+  digits_same : (i : ℕ) → When n (Ok (digits_end s i)) (Ok (digits_end r i))
   unfolding digits_end
-  digits_same i h = ap End (a.runs is_digit i h)
+  digits_same i h = ap Ok (a.runs is_digit i h)
 
   optional-same : (p : ℕ → Bool) (at : ℕ) → p 256 ≡ false → optional p s at < n → optional p r at ≡ optional p s at
   unfolding optional
   optional-same p at e h = rw (test p at _ (optional_stops s p at e) h, optional)
 
-  from-optional : (p : ℕ → Bool) → p 256 ≡ false → (k l : ℕ → Scan) → ((i : ℕ) → StopsWithin s i (k i)) → Same k l → (at : ℕ) → When n (k (optional p s at)) (l (optional p r at))
+  from-optional : (p : ℕ → Bool) → p 256 ≡ false → (k l : ℕ → Result ℕ ℕ) → ((i : ℕ) → StopsWithin s i (k i)) → Same k l → (at : ℕ) → When n (k (optional p s at)) (l (optional p r at))
   from-optional p e k l w f at h = let z = w (optional p s at) in rw (optional-same p at e (omega arith)) (f (optional p s at) h)
 
   some_same : Same (some_digits s) (some_digits r)
@@ -159,8 +158,8 @@ module _ (n : ℕ) (s r : List ℕ) (a : BeginAlike n s r) where
   word_same (b ∷ w) at k h = if-alike n (eqb (byte s at) b) (eqb (byte r at) b) _ _ _ _ (test (λ c. eqb c b) at _ (word_stops s (b ∷ w) at k) h) (word_same w (at + 1) k.1) (λ k. refl) h
 
   -- arrays and objects; the number that counts down the items is enough in either text
-  module _ (item jtem : ℕ → Scan) (close : ℕ) (small : close < 256) (lies : (i : ℕ) → StopsWithin s i (item i)) (same : Same item jtem) where
-    after_same : (k l : ℕ → Scan) → ((i : ℕ) → StopsWithin s i (k i)) → (j : ℕ) → ((i : ℕ) → j < i → When n (k i) (l i)) → When n (after k close s j) (after l close r j)
+  module _ (item jtem : ℕ → Result ℕ ℕ) (close : ℕ) (small : close < 256) (lies : (i : ℕ) → StopsWithin s i (item i)) (same : Same item jtem) where
+    after_same : (k l : ℕ → Result ℕ ℕ) → ((i : ℕ) → StopsWithin s i (k i)) → (j : ℕ) → ((i : ℕ) → j < i → When n (k i) (l i)) → When n (after k close s j) (after l close r j)
     unfolding after
     after_same k l w j f h =
         let z = after_stops s item close small lies k w j in
@@ -175,8 +174,8 @@ module _ (n : ℕ) (s r : List ℕ) (a : BeginAlike n s r) where
     series-same zero g i p q h = let z = a.long in absurd (omega arith)
     series-same (suc f) zero i p q h = let z = a.also in let y = series_stops s item close small lies (suc f) i in absurd (omega arith)
     series-same (suc f) (suc g) i p q h =
-        let k : ℕ → Scan = λ j. series item close s f j in
-        let l : ℕ → Scan = λ j. series jtem close r g j in
+        let k : ℕ → (Result ℕ ℕ) = λ j. series item close s f j in
+        let l : ℕ → (Result ℕ ℕ) = λ j. series jtem close r g j in
         let w : (j : ℕ) → StopsWithin s j (after k close s j) = after_stops s item close small lies k (series_stops s item close small lies f) in
         then_same (item i) (jtem i) (λ e. after k close s (ws s e)) (λ e. after l close r (ws r e)) (λ e. ws_then s e _ (w (ws s e))) (same i)
         (λ e m h. let y = lies i in let x = ws_stops s e in let v = w (ws s e) in
@@ -193,18 +192,18 @@ module _ (n : ℕ) (s r : List ℕ) (a : BeginAlike n s r) where
 
   colon-same : Same (colon s) (colon r)
   unfolding colon
-  colon-same j h = if-alike n (eqb (byte s j) 58) (eqb (byte r j) 58) _ _ _ _ (test (λ b. eqb b 58) j _ (colon_stops s j) h) (λ k. ap End (ws-same (j + 1) k)) (λ k. refl) h
+  colon-same j h = if-alike n (eqb (byte s j) 58) (eqb (byte r j) 58) _ _ _ _ (test (λ b. eqb b 58) j _ (colon_stops s j) h) (λ k. ap Ok (ws-same (j + 1) k)) (λ k. refl) h
 
   key-same : Same (key_at s) (key_at r)
   unfolding key_at
   key-same at h = then_same (string_at s at) (string_at r at) (λ e. colon s (ws s e)) (λ e. colon r (ws r e)) (λ e. ws_then s e _ (colon_stops s (ws s e))) (string-same at)
       (λ e z. from-ws (colon s) (colon r) (colon_stops s) colon-same e) h
 
-  member-same : (v w : ℕ → Scan) → ((i : ℕ) → StopsWithin s i (v i)) → Same v w → Same (member_of v s) (member_of w r)
+  member-same : (v w : ℕ → Result ℕ ℕ) → ((i : ℕ) → StopsWithin s i (v i)) → Same v w → Same (member_of v s) (member_of w r)
   unfolding member_of
   member-same v w l f at h = then_same (key_at s at) (key_at r at) v w l (key-same at) (λ e z. f e) h
 
-  of-same : (k : Kind) (x y v w : ℕ → Scan) (at : ℕ) → When n (x at) (v at) → When n (y at) (w at) → When n (value_of k x y s at) (value_of k v w r at)
+  of-same : (k : Kind) (x y v w : ℕ → Result ℕ ℕ) (at : ℕ) → When n (x at) (v at) → When n (y at) (w at) → When n (value_of k x y s at) (value_of k v w r at)
   unfolding value_of
   of-same bracket x y v w at f g h = f h
   of-same brace x y v w at f g h = g h
@@ -216,7 +215,7 @@ module _ (n : ℕ) (s r : List ℕ) (a : BeginAlike n s r) where
 
   value_same : (d : ℕ) → Same (value_at d s) (value_at d r)
   unfolding value_at array_of object_of
-  value_same zero at h = let z = value_stops s zero at in rw (ap kind_of (a.bytes at (omega arith))) (of-same (kind_of (byte s at)) Bad Bad Bad Bad at (λ k. refl) (λ k. refl) h)
+  value_same zero at h = let z = value_stops s zero at in rw (ap kind_of (a.bytes at (omega arith))) (of-same (kind_of (byte s at)) Err Err Err Err at (λ k. refl) (λ k. refl) h)
   value_same (suc d) at h = let z = value_stops s (suc d) at in rw (ap kind_of (a.bytes at (omega arith))) (of-same (kind_of (byte s at)) _ _ _ _ at
       (inner-same (λ j. value_at d s j) (λ j. value_at d r j) 93 (omega arith) (value_stops s d) (value_same d) at)
       (inner-same (λ i. member_of (λ j. value_at d s j) s i) (λ i. member_of (λ j. value_at d r j) r i) 125 (omega arith) (member_stops s (λ j. value_at d s j) (value_stops s d))
@@ -240,5 +239,5 @@ module _ (n : ℕ) (s r : List ℕ) (a : BeginAlike n s r) where
       (λ i. then_same (value_at d s i) (value_at d r i) _ _ ends_stops (value_same d i) (λ e z. from-ws (at_end s) (at_end r) (end_stops s) end_same e)) 0 h
 
 -- what begins as s does, up to p and the byte there, fails at p as s does
-pub same_place : (d : ℕ) (c t u : List ℕ) (p : ℕ) → p < length c → document_at d (c ++ t) ≡ Bad p → document_at d (c ++ u) ≡ Bad p
+pub same_place : (d : ℕ) (c t u : List ℕ) (p : ℕ) → p < length c → document_at d (c ++ t) ≡ Err p → document_at d (c ++ u) ≡ Err p
 same_place d c t u p h e = let z : reach_of (document_at d (c ++ t)) ≡ p = ap reach_of e in document-same (length c) (c ++ t) (c ++ u) (alike t u c) d (omega arith) ∙ e

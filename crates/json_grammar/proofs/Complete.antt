@@ -1,4 +1,5 @@
 -- What is in the grammar the reader accepts.
+use Rattle.std.specs.Prelude.{Err, Ok, Result}
 use Prim.Native.Nat.{ℕ, zero, suc, ◌+◌, ◌≤◌, ◌<◌}
 use native.Mathlib.Nat.{add-zero}
 use native.Mathlib.Numerals.{add-one}
@@ -16,8 +17,6 @@ use Rattle.json_text.specs.Bytes.{byte, run, past, is_ws, ws, word, and_then}
 use Rattle.json_text.specs.Strings.{is_hex, is_escape, plain_step, escape_step, hex_step, text_step, text, string_at}
 use Rattle.json_text.specs.Number.{is_digit, digits_end, optional, is_minus, is_sign, some_digits, int_at, frac_at, is_exp, exp_at, number_at}
 use Rattle.json_text.specs.Value.{Kind, bracket, brace, quote, true_word, false_word, null_word, other, kind_of, after, series, list_of, array_of, colon, key_at, member_of, object_of, value_of, value_at, at_end, document_of, opens}
-use Rattle.json_text.specs.declared.Scan.{Scan}
-use Rattle.json_text.specs.declared.Scan.TheVariants.{End, Bad}
 use Rattle.json_text.specs.declared.string.State.{State}
 use Rattle.json_text.specs.declared.string.State.TheVariants.{Plain, Escape, Hex4, Hex3, Hex2, Hex1}
 use Rattle.json_text.specs.declared.string.Move.TheVariants.{Go}
@@ -209,20 +208,20 @@ module _ (s : List ℕ) where
       record { to = r.to; rest = r.rest; from = r.from; fits = r.fits; same = r.same }
 
   -- where a scan ends, at `lo` or later, and what is left
-  record Ends (q : Scan) (lo : ℕ) (m : List ℕ) : Type 0 where
+  record Ends (q : Result ℕ ℕ) (lo : ℕ) (m : List ℕ) : Type 0 where
     end : ℕ
-    is : q ≡ End end
+    is : q ≡ Ok end
     rest : drop end s ≡ m
     from : lo ≤ end
     fits : end ≤ length s
 
-  digits-end : (at : ℕ) (l m : List ℕ) → at ≤ length s → drop at s ≡ l → Lead (∗ G.DIGIT) l m → is_digit (head m) ≡ false → Ends (End (digits_end s at)) at m
+  digits-end : (at : ℕ) (l m : List ℕ) → at ≤ length s → drop at s ≡ l → Lead (∗ G.DIGIT) l m → is_digit (head m) ≡ false → Ends (Ok (digits_end s at)) at m
   unfolding digits_end past
   digits-end at l m h e w n =
       let r = ran is_digit G.DIGIT (λ a b g. record { b = g.0; is = is_digit_lem g.0 g.1 g.2; cut = g.3 }) w at h e in
       let z = run-stop is_digit s r.to (ap is_digit (byte-head r.to m r.rest) ∙ n) in
       let k : at + run is_digit (drop at s) ≡ r.to = omega arith in
-      record { end = r.to; is = ap End k; rest = r.rest; from = r.from; fits = r.fits }
+      record { end = r.to; is = ap Ok k; rest = r.rest; from = r.from; fits = r.fits }
 
   some_end : (at : ℕ) (l m : List ℕ) → drop at s ≡ l → Lead (some G.DIGIT) l m → is_digit (head m) ≡ false → Ends (some_digits s at) (at + 1) m
   some_end at l m e w n =
@@ -234,7 +233,7 @@ module _ (s : List ℕ) where
   at_x : (at k : ℕ) (l m : List ℕ) → drop at s ≡ l → Lead (x k) l m → At at k m
   at_x at k l m e h = let q : h.0 ≡ k = (let a = h.1 in let c = h.2 in omega arith) in at-cons at k l m e (h.3 ∙ ap (λ (b : ℕ). b ∷ m) q)
 
-  later : {q r : Scan} {lo lo' : ℕ} {m : List ℕ} → q ≡ r → lo ≤ lo' → Ends r lo' m → Ends q lo m
+  later : {q r : Result ℕ ℕ} {lo lo' : ℕ} {m : List ℕ} → q ≡ r → lo ≤ lo' → Ends r lo' m → Ends q lo m
   later e h r = record { end = r.end; is = e ∙ r.is; rest = r.rest; from = omega arith; fits = r.fits }
 
   -- numbers, from the last part to the first
@@ -364,9 +363,9 @@ module _ (s : List ℕ) where
       record { here = ap (byte s) q ∙ a.here; to = r.to; rest = r.rest; lo = omega arith; from = omega arith; fits = r.fits; same = r.same ∙ ap (λ (i : ℕ). ws s (i + 1)) (sym q) }
 
   -- an item read from past the white space before it; white space may follow it
-  record Took (item : ℕ → Scan) (at : ℕ) (m : List ℕ) : Type 0 where
+  record Took (item : ℕ → Result ℕ ℕ) (at : ℕ) (m : List ℕ) : Type 0 where
     end : ℕ
-    is : item (ws s at) ≡ End end
+    is : item (ws s at) ≡ Ok end
     to : ℕ
     rest : drop to s ≡ m
     from : at < end
@@ -374,13 +373,13 @@ module _ (s : List ℕ) where
     fits : to ≤ length s
     same : ws s to ≡ ws s end
 
-  took : (item : ℕ → Scan) (at : ℕ) (m : List ℕ) → is_ws (byte s at) ≡ false → Ends (item at) (at + 1) m → Took item at m
+  took : (item : ℕ → Result ℕ ℕ) (at : ℕ) (m : List ℕ) → is_ws (byte s at) ≡ false → Ends (item at) (at + 1) m → Took item at m
   took item at m n r = let z = ws-stop s at n in
       record { end = r.end; is = ap item z ∙ r.is; to = r.end; rest = r.rest; from = omega arith; upto = omega arith; fits = r.fits; same = refl }
 
-  module _ (I : Json) (item : ℕ → Scan) (close : ℕ) (blank : is_ws close ≡ false) (comma : eqb close 44 ≡ false) (stop : Stop close)
+  module _ (I : Json) (item : ℕ → Result ℕ ℕ) (close : ℕ) (blank : is_ws close ≡ false) (comma : eqb close 44 ≡ false) (stop : Stop close)
       (ok : (at : ℕ) (l m : List ℕ) → at ≤ length s → drop at s ≡ l → Lead I l m → Stop (head m) → Took item at m)
-      (not : (i e : ℕ) → item i ≡ End e → eqb (byte s i) close ≡ false) where
+      (not : (i e : ℕ) → item i ≡ Ok e → eqb (byte s i) close ≡ false) where
     comma-blank : is_ws 44 ≡ false
     unfolding is_ws
     comma-blank = refl
@@ -421,14 +420,14 @@ module _ (s : List ℕ) where
         }
 
     -- the first item's first byte is not the closing one
-    first-not : (f i e : ℕ) → series item close s f i ≡ End e → eqb (byte s i) close ≡ false
+    first-not : (f i e : ℕ) → series item close s f i ≡ Ok e → eqb (byte s i) close ≡ false
     unfolding series and_then
     first-not zero i e q = let z : ◌≡◌ {A = ℕ} 0 1 = cc in absurd (omega arith)
     first-not (suc f) i e q = go (item i) refl q
       where
-        go : (r : Scan) → item i ≡ r → and_then r (λ e. after (λ j. series item close s f j) close s (ws s e)) ≡ End e → eqb (byte s i) close ≡ false
-        go (End k) p q = not i k p
-        go (Bad k) p q = let z : ◌≡◌ {A = ℕ} 0 1 = cc in absurd (omega arith)
+        go : (r : Result ℕ ℕ) → item i ≡ r → and_then r (λ e. after (λ j. series item close s f j) close s (ws s e)) ≡ Ok e → eqb (byte s i) close ≡ false
+        go (Ok k) p q = not i k p
+        go (Err k) p q = let z : ◌≡◌ {A = ℕ} 0 1 = cc in absurd (omega arith)
 
     list-end : (at : ℕ) (l m : List ℕ) → at ≤ length s → drop at s ≡ l → Lead (opt (I · ∗ (G.value-separator · I)) · (G.ws · x close · G.ws)) l m → Took (list_of item close s) at m
     list-end at l m h e (j, inr q, c) = let t = token at close j m blank h (e ∙ q) c in
@@ -444,7 +443,7 @@ module _ (s : List ℕ) where
         let r = list-end t.to j m t.fits t.rest w in
         (t.here, record { end = r.end; is = ap (list_of item close s) (sym t.same) ∙ r.is; to = r.to; rest = r.rest; from = omega arith; upto = r.upto; fits = r.fits; same = r.same })
 
-  key_is : (at e : ℕ) → string_at s at ≡ End e → byte s (ws s e) ≡ 58 → key_at s at ≡ End (ws s (ws s e + 1))
+  key_is : (at e : ℕ) → string_at s at ≡ Ok e → byte s (ws s e) ≡ 58 → key_at s at ≡ Ok (ws s (ws s e + 1))
   unfolding key_at and_then colon
   key_is at e q c = rw (q, and_then) (rw (eq-eqb _ _ c, colon))
 
@@ -456,7 +455,7 @@ module _ (s : List ℕ) where
   unfolding is_ws
   colon-blank = refl
 
-  module _ (A : Json) (v : ℕ → Scan) (ok : (at : ℕ) (l m : List ℕ) → at ≤ length s → drop at s ≡ l → Lead A l m → Stop (head m) → Took v at m) where
+  module _ (A : Json) (v : ℕ → Result ℕ ℕ) (ok : (at : ℕ) (l m : List ℕ) → at ≤ length s → drop at s ≡ l → Lead A l m → Stop (head m) → Took v at m) where
     member-end : (at : ℕ) (l m : List ℕ) → at ≤ length s → drop at s ≡ l → Lead (member_over A) l m → Stop (head m) → Took (member_of v s) at m
     member-end at l m h e (k, (k1, g, str), (j, sep, w)) n =
         let a = at_x at 34 l k1 e g in
@@ -475,14 +474,14 @@ module _ (s : List ℕ) where
           same = u.same;
         }
 
-    member-not : (i e : ℕ) → member_of v s i ≡ End e → eqb (byte s i) 125 ≡ false
+    member-not : (i e : ℕ) → member_of v s i ≡ Ok e → eqb (byte s i) 125 ≡ false
     unfolding member_of and_then key_at string_at
     member-not i e q = both (eqb (byte s i) 125)
         (λ b. let a = eqb-true (byte s i) 125 b in
         let c : eqb (byte s i) 34 ≡ false = ap (λ (k : ℕ). eqb k 34) a in
-        let g : string_at s i ≡ Bad i = rw (c, string_at) in
-        let d : key_at s i ≡ Bad i = rw (g, and_then) in
-        let f : member_of v s i ≡ Bad i = rw (d, and_then) in
+        let g : string_at s i ≡ Err i = rw (c, string_at) in
+        let d : key_at s i ≡ Err i = rw (g, and_then) in
+        let f : member_of v s i ≡ Err i = rw (d, and_then) in
         let z : ◌≡◌ {A = ℕ} 0 1 = cc in absurd (omega arith))
         (λ b. b)
 
@@ -496,7 +495,7 @@ module _ (s : List ℕ) where
   Leaf null_word = Unit {0}
   Leaf other = Unit {0}
 
-  leaf-same : (a o : ℕ → Scan) (at : ℕ) (k : Kind) → Leaf k → value_of k a o s at ≡ value_of k Bad Bad s at
+  leaf-same : (a o : ℕ → Result ℕ ℕ) (at : ℕ) (k : Kind) → Leaf k → value_of k a o s at ≡ value_of k Err Err s at
   unfolding value_of
   leaf-same a o at bracket h = absurd h
   leaf-same a o at brace h = absurd h
@@ -506,12 +505,12 @@ module _ (s : List ℕ) where
   leaf-same a o at null_word h = refl
   leaf-same a o at other h = refl
 
-  leaf_is : (d at : ℕ) (k : Kind) → kind_of (byte s at) ≡ k → Leaf k → value_at d s at ≡ value_of k Bad Bad s at
+  leaf_is : (d at : ℕ) (k : Kind) → kind_of (byte s at) ≡ k → Leaf k → value_at d s at ≡ value_of k Err Err s at
   unfolding value_at
   leaf_is zero at k q h = rw q
   leaf_is (suc d) at k q h = rw q (leaf-same _ _ at k h)
 
-  leaf_took : (d at : ℕ) (b : ℕ) (k : Kind) (m : List ℕ) → byte s at ≡ b → kind_of b ≡ k → Leaf k → is_ws b ≡ false → Ends (value_of k Bad Bad s at) (at + 1) m → Took (value_at d s) at m
+  leaf_took : (d at : ℕ) (b : ℕ) (k : Kind) (m : List ℕ) → byte s at ≡ b → kind_of b ≡ k → Leaf k → is_ws b ≡ false → Ends (value_of k Err Err s at) (at + 1) m → Took (value_at d s) at m
   leaf_took d at b k m e q h n r = took (value_at d s) at m (ap is_ws e ∙ n) (later (leaf_is d at k (ap kind_of e ∙ q) h) (omega arith) r)
 
   -- a number's first byte
@@ -556,11 +555,11 @@ module _ (s : List ℕ) where
       leaf_took d at 34 quote m a.here refl tt refl (string-end at l m e (k, g, w))
 
   -- no value begins with a bracket that closes
-  pub value_not : (d i e : ℕ) → value_at d s i ≡ End e → eqb (byte s i) 93 ≡ false
+  pub value_not : (d i e : ℕ) → value_at d s i ≡ Ok e → eqb (byte s i) 93 ≡ false
   unfolding kind_of value_of is_digit
   value_not d i e q = both (eqb (byte s i) 93)
       (λ b. let c = eqb-true (byte s i) 93 b in
-      let u : int_at s i ≡ Bad i = sym (int-digits s i (λ z. omega arith)) ∙ sym (some_no s i (ap is_digit c)) in
+      let u : int_at s i ≡ Err i = sym (int-digits s i (λ z. omega arith)) ∙ sym (some_no s i (ap is_digit c)) in
       let v = number-int s i i i (minus_no s i (λ z. omega arith)) u in
       let w = leaf_is d i other (ap kind_of c) tt in
       let z : ◌≡◌ {A = ℕ} 0 1 = cc in absurd (omega arith))
@@ -574,7 +573,7 @@ module _ (s : List ℕ) where
   unfolding value_at kind_of value_of object_of
   object_is d i b = rw (ap kind_of b)
 
-  by : (f g : ℕ → Scan) (at : ℕ) (m : List ℕ) → g (ws s at) ≡ f (ws s at) → Took f at m → Took g at m
+  by : (f g : ℕ → Result ℕ ℕ) (at : ℕ) (m : List ℕ) → g (ws s at) ≡ f (ws s at) → Took f at m → Took g at m
   by f g at m q r = record { end = r.end; is = q ∙ r.is; to = r.to; rest = r.rest; from = r.from; upto = r.upto; fits = r.fits; same = r.same }
 
   value-end : (d at : ℕ) (l m : List ℕ) → at ≤ length s → drop at s ≡ l → Lead (value d) l m → Stop (head m) → Took (value_at d s) at m
@@ -602,11 +601,11 @@ module _ (s : List ℕ) where
   unfolding is_ws
   end-blank = ws-stop s (length s) (ap is_ws (byte_out s (length s) (omega arith)))
 
-  document_is : (d e : ℕ) → value_at d s (ws s 0) ≡ End e → ws s e ≡ length s → document_at d s ≡ End (length s)
+  document_is : (d e : ℕ) → value_at d s (ws s 0) ≡ Ok e → ws s e ≡ length s → document_at d s ≡ Ok (length s)
   unfolding document_at and_then at_end
   document_is d e q b = rw (q, and_then) (rw b (rw (eq-eqb (length s) (length s) refl, at_end)))
 
-  pub complete : (d : ℕ) → Lead (expand G.rules d G.JSON-text) s [] → document_at d s ≡ End (length s)
+  pub complete : (d : ℕ) → Lead (expand G.rules d G.JSON-text) s [] → document_at d s ≡ Ok (length s)
   unfolding value
   complete d (k, w, (j, v, z)) =
       let p = skip 0 s k (omega arith) refl w in
@@ -627,7 +626,7 @@ module _ (s : List ℕ) where
   as-value (inl w) = inr (inr (inr (inl w)))
   as-value (inr w) = inr (inr (inr (inr (inl w))))
 
-  pub complete-container : Lead (expand G.rules 16 G.container) s [] → (document_of s ≡ End (length s)) × (opens (byte s (ws s 0)) ≡ true)
+  pub complete-container : Lead (expand G.rules 16 G.container) s [] → (document_of s ≡ Ok (length s)) × (opens (byte s (ws s 0)) ≡ true)
   unfolding value
   complete-container (k, w, (j, v, z)) =
       let p = skip 0 s k (omega arith) refl w in

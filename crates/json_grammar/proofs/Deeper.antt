@@ -1,4 +1,5 @@
 -- What more depth changes: nothing, or the reader goes past the bracket at which it failed.
+use Rattle.std.specs.Prelude.{Err, Ok, Result}
 use Prim.Native.Nat.{ℕ, zero, suc, ◌+◌, ◌≤◌, ◌<◌}
 use native.Mathlib.Omega.{arith}
 use mathlib.Core.Path.{◌≡◌, refl, sym, ap, ◌∙◌}
@@ -9,8 +10,6 @@ use lib.ListN.{length}
 use lib.Dec.{eqb}
 use Rattle.json_text.specs.Bytes.{byte, ws, and_then}
 use Rattle.json_text.specs.Value.{Kind, bracket, brace, quote, true_word, false_word, null_word, other, kind_of, after, series, list_of, array_of, key_at, member_of, object_of, value_of, value_at, at_end, opens}
-use Rattle.json_text.specs.declared.Scan.{Scan}
-use Rattle.json_text.specs.declared.Scan.TheVariants.{End, Bad}
 use Rattle.json_text.proofs.Bytes.{both}
 use Rattle.json_text.proofs.Values.{after_comma, after_close, after-bad, list-none, list-some}
 use Rattle.json_grammar.specs.Place.{reach_of}
@@ -28,32 +27,32 @@ deep_is zero k = omega arith
 deep_is (suc d) k = let h = deep_is d k in omega arith
 
 module _ (s : List ℕ) where
-  pub record PastBracket (q : Scan) (r : ℕ → Scan) : Type 0 where
+  pub record PastBracket (q : Result ℕ ℕ) (r : ℕ → Result ℕ ℕ) : Type 0 where
     pub at : ℕ
-    pub bad : q ≡ Bad at
+    pub bad : q ≡ Err at
     pub bracket : opens (byte s at) ≡ true
     pub past : (k : ℕ) → at < reach_of (r k)
 
-  abbrev pub Spread : Scan → (ℕ → Scan) → Type 0
+  abbrev pub Spread : Result ℕ ℕ → (ℕ → Result ℕ ℕ) → Type 0
   Spread q r = ((k : ℕ) → r k ≡ q) ⊎ PastBracket q r
 
-  by : (q v : Scan) (r w : ℕ → Scan) → q ≡ v → ((k : ℕ) → r k ≡ w k) → Spread v w → Spread q r
+  by : (q v : Result ℕ ℕ) (r w : ℕ → Result ℕ ℕ) → q ≡ v → ((k : ℕ) → r k ≡ w k) → Spread v w → Spread q r
   by q v r w e f (inl g) = inl (λ k. f k ∙ g k ∙ sym e)
   by q v r w e f (inr p) = inr (record { at = p.at; bad = e ∙ p.bad; bracket = p.bracket; past = λ k. let z = p.past k in let y = ap reach_of (f k) in omega arith })
 
-  then-more : (q : Scan) (k : ℕ → Scan) → ((e : ℕ) → StopsWithin s e (k e)) → reach_of q ≤ reach_of (and_then q k)
+  then-more : (q : Result ℕ ℕ) (k : ℕ → Result ℕ ℕ) → ((e : ℕ) → StopsWithin s e (k e)) → reach_of q ≤ reach_of (and_then q k)
   unfolding and_then
-  then-more (End e) k f = (f e).from
-  then-more (Bad e) k f = omega arith
+  then-more (Ok e) k f = (f e).from
+  then-more (Err e) k f = omega arith
 
-  then_spread : (q : Scan) (r : ℕ → Scan) (l : ℕ → Scan) (m : ℕ → ℕ → Scan) → Spread q r → ((e : ℕ) → Spread (l e) (λ k. m k e)) → ((k e : ℕ) → StopsWithin s e (m k e)) → Spread (and_then q l) (λ k. and_then (r k) (m k))
+  then_spread : (q : Result ℕ ℕ) (r : ℕ → Result ℕ ℕ) (l : ℕ → Result ℕ ℕ) (m : ℕ → ℕ → Result ℕ ℕ) → Spread q r → ((e : ℕ) → Spread (l e) (λ k. m k e)) → ((k e : ℕ) → StopsWithin s e (m k e)) → Spread (and_then q l) (λ k. and_then (r k) (m k))
   unfolding and_then
-  then_spread q r l m (inr p) g h = inr (record { at = p.at; bad = ap (λ (v : Scan). and_then v l) p.bad; bracket = p.bracket; past = λ k. let z = p.past k in let y = then-more (r k) (m k) (h k) in omega arith })
-  then_spread (End e) r l m (inl f) g h = by (l e) (l e) (λ k. and_then (r k) (m k)) (λ k. m k e) refl (λ k. ap (λ (v : Scan). and_then v (m k)) (f k)) (g e)
-  then_spread (Bad e) r l m (inl f) g h = inl (λ k. ap (λ (v : Scan). and_then v (m k)) (f k))
+  then_spread q r l m (inr p) g h = inr (record { at = p.at; bad = ap (λ (v : Result ℕ ℕ). and_then v l) p.bad; bracket = p.bracket; past = λ k. let z = p.past k in let y = then-more (r k) (m k) (h k) in omega arith })
+  then_spread (Ok e) r l m (inl f) g h = by (l e) (l e) (λ k. and_then (r k) (m k)) (λ k. m k e) refl (λ k. ap (λ (v : Result ℕ ℕ). and_then v (m k)) (f k)) (g e)
+  then_spread (Err e) r l m (inl f) g h = inl (λ k. ap (λ (v : Result ℕ ℕ). and_then v (m k)) (f k))
 
-  module _ (item : ℕ → Scan) (jtem : ℕ → ℕ → Scan) (close : ℕ) (small : close < 256) (ok : (i : ℕ) → Spread (item i) (λ k. jtem k i)) (lies : (k i : ℕ) → StopsWithin s i (jtem k i)) where
-    after_spread : (l : ℕ → Scan) (m : ℕ → ℕ → Scan) → ((i : ℕ) → Spread (l i) (λ k. m k i)) → (j : ℕ) → Spread (after l close s j) (λ k. after (m k) close s j)
+  module _ (item : ℕ → Result ℕ ℕ) (jtem : ℕ → ℕ → Result ℕ ℕ) (close : ℕ) (small : close < 256) (ok : (i : ℕ) → Spread (item i) (λ k. jtem k i)) (lies : (k i : ℕ) → StopsWithin s i (jtem k i)) where
+    after_spread : (l : ℕ → Result ℕ ℕ) (m : ℕ → ℕ → Result ℕ ℕ) → ((i : ℕ) → Spread (l i) (λ k. m k i)) → (j : ℕ) → Spread (after l close s j) (λ k. after (m k) close s j)
     after_spread l m f j = both (eqb (byte s j) 44)
         (λ b. by _ _ _ _ (after_comma item close s l j b) (λ k. after_comma item close s (m k) j b) (f (ws s (j + 1))))
         (λ b. both (eqb (byte s j) close)
@@ -73,12 +72,12 @@ module _ (s : List ℕ) where
         (λ c. inl (λ k. list-none (jtem k) close s i c ∙ sym (list-none item close s i c)))
         (λ c. by _ _ _ _ (list-some item close s i c) (λ k. list-some (jtem k) close s i c) (series_spread (length s) i))
 
-  member_spread : (v : ℕ → Scan) (w : ℕ → ℕ → Scan) → ((i : ℕ) → Spread (v i) (λ k. w k i)) → ((k i : ℕ) → StopsWithin s i (w k i)) → (at : ℕ) → Spread (member_of v s at) (λ k. member_of (w k) s at)
+  member_spread : (v : ℕ → Result ℕ ℕ) (w : ℕ → ℕ → Result ℕ ℕ) → ((i : ℕ) → Spread (v i) (λ k. w k i)) → ((k i : ℕ) → StopsWithin s i (w k i)) → (at : ℕ) → Spread (member_of v s at) (λ k. member_of (w k) s at)
   unfolding member_of
   member_spread v w f g at = then_spread (key_at s at) (λ k. key_at s at) v w (inl (λ k. refl)) f g
 
   -- where no depth is left an opening byte is bad, and any depth goes past it
-  opened : (at : ℕ) (q : ℕ → Scan) → opens (byte s at) ≡ true → ((k : ℕ) → StopsWithin s (at + 1) (q k)) → PastBracket (Bad at) q
+  opened : (at : ℕ) (q : ℕ → Result ℕ ℕ) → opens (byte s at) ≡ true → ((k : ℕ) → StopsWithin s (at + 1) (q k)) → PastBracket (Err at) q
   opened at q b f = record { at = at; bad = refl; bracket = b; past = λ k. let z = f k in omega arith }
 
   opens_of : (b : ℕ) → (eqb b 91 ≡ true) ⊎ (eqb b 123 ≡ true) → opens b ≡ true
@@ -86,8 +85,8 @@ module _ (s : List ℕ) where
   opens_of b (inl e) = rw e
   opens_of b (inr e) = rw e (or-true (eqb b 91))
 
-  leaf_spread : (at : ℕ) (x : ℕ → ℕ → Scan) (y : ℕ → ℕ → Scan) → ((k : ℕ) → StopsWithin s (at + 1) (x k at)) → ((k : ℕ) → StopsWithin s (at + 1) (y k at)) → (t : Kind) → Of s (byte s at) t →
-      Spread (value_of t Bad Bad s at) (λ k. value_of t (x k) (y k) s at)
+  leaf_spread : (at : ℕ) (x : ℕ → ℕ → Result ℕ ℕ) (y : ℕ → ℕ → Result ℕ ℕ) → ((k : ℕ) → StopsWithin s (at + 1) (x k at)) → ((k : ℕ) → StopsWithin s (at + 1) (y k at)) → (t : Kind) → Of s (byte s at) t →
+      Spread (value_of t Err Err s at) (λ k. value_of t (x k) (y k) s at)
   unfolding value_of
   leaf_spread at x y f g bracket h = inr (opened at (λ k. x k at) (opens_of (byte s at) (inl h)) f)
   leaf_spread at x y f g brace h = inr (opened at (λ k. y k at) (opens_of (byte s at) (inr h)) g)
@@ -97,7 +96,7 @@ module _ (s : List ℕ) where
   leaf_spread at x y f g null_word h = inl (λ k. refl)
   leaf_spread at x y f g other h = inl (λ k. refl)
 
-  node_spread : (at : ℕ) (u v : ℕ → Scan) (x y : ℕ → ℕ → Scan) → Spread (u at) (λ k. x k at) → Spread (v at) (λ k. y k at) → (t : Kind) → Spread (value_of t u v s at) (λ k. value_of t (x k) (y k) s at)
+  node_spread : (at : ℕ) (u v : ℕ → Result ℕ ℕ) (x y : ℕ → ℕ → Result ℕ ℕ) → Spread (u at) (λ k. x k at) → Spread (v at) (λ k. y k at) → (t : Kind) → Spread (value_of t u v s at) (λ k. value_of t (x k) (y k) s at)
   unfolding value_of
   node_spread at u v x y f g bracket = f
   node_spread at u v x y f g brace = g

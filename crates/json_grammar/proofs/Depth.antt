@@ -1,4 +1,5 @@
 -- JSON's grammar to a depth, with the named rules put in.
+use Rattle.std.specs.Prelude.{Result}
 use Prim.Native.Nat.{ℕ, suc}
 use mathlib.Core.Path.{◌≡◌, refl}
 use mathlib.Core.List.{List}
@@ -6,7 +7,6 @@ use Rattle.abnf.specs.Abnf.{◌·◌, Abnf, ◌//◌, ∗◌, opt}
 use Rattle.abnf.proofs.Lead as L
 use Rattle.json_text.specs.Bytes.{ws, and_then}
 use Rattle.json_text.specs.Value.{value_at, at_end, document_of}
-use Rattle.json_text.specs.declared.Scan.{Scan}
 use Rattle.json_grammar.specs.Rfc8259 as G
 
 abbrev pub Json : Type 0
@@ -42,7 +42,7 @@ unfolding value
 container d = refl
 
 -- the reader of a whole text, to any depth
-unfoldable pub document_at : ℕ → List ℕ → Scan
+unfoldable pub document_at : ℕ → List ℕ → Result ℕ ℕ
 document_at d s = and_then (value_at d s (ws s 0)) (λ e. at_end s (ws s e))
 
 pub document_16 : (s : List ℕ) → document_of s ≡ document_at 16 s

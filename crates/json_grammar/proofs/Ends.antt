@@ -1,4 +1,5 @@
 -- Where a scan ends that reads a byte or more: past its start, and inside the text.
+use Rattle.std.specs.Prelude.{Err, Ok, Result}
 use Prim.Native.Nat.{ℕ, zero, suc, ◌+◌, ◌≤◌, ◌<◌}
 use native.Mathlib.Omega.{arith}
 use mathlib.Core.Path.{◌≡◌, refl}
@@ -10,35 +11,33 @@ use Rattle.json_text.specs.Bytes.{byte, ws, word, and_then}
 use Rattle.json_text.specs.Strings.{text, string_at}
 use Rattle.json_text.specs.Number.{is_digit, digits_end, optional, is_minus, some_digits, int_at, frac_at, exp_at, number_at}
 use Rattle.json_text.specs.Value.{Kind, bracket, brace, quote, true_word, false_word, null_word, other, kind_of, array_of, colon, key_at, object_of, value_of, value_at}
-use Rattle.json_text.specs.declared.Scan.{Scan}
-use Rattle.json_text.specs.declared.Scan.TheVariants.{End, Bad}
 use Rattle.json_text.specs.declared.string.State.TheVariants.{Plain}
 use Rattle.json_text.proofs.Bytes.{both, past-inside}
 use Rattle.json_grammar.proofs.Sound.{Of, kind_of_lem}
 use Rattle.json_grammar.proofs.Stops.{Small, StopsWithin, hit, past_stops, ws_stops, ws_then, text_stops, optional_stops, tail_stops, word_stops, colon_stops, array_stops, object_stops}
 
 module _ (s : List ℕ) where
-  abbrev pub Past : ℕ → Scan → Type 0
-  Past at (End e) = (at < e) × (e ≤ length s)
-  Past at (Bad e) = Unit {0}
+  abbrev pub Past : ℕ → Result ℕ ℕ → Type 0
+  Past at (Ok e) = (at < e) × (e ≤ length s)
+  Past at (Err e) = Unit {0}
 
   -- a scan that goes on from behind a byte
-  behind : (at : ℕ) (q : Scan) → at < length s → StopsWithin s (at + 1) q → Past at q
-  behind at (End e) h w = (omega arith, omega arith)
-  behind at (Bad e) h w = tt
+  behind : (at : ℕ) (q : Result ℕ ℕ) → at < length s → StopsWithin s (at + 1) q → Past at q
+  behind at (Ok e) h w = (omega arith, omega arith)
+  behind at (Err e) h w = tt
 
-  farther : (i j : ℕ) (q : Scan) → i ≤ j → Past j q → Past i q
-  farther i j (End e) h p = (omega arith, p.1)
-  farther i j (Bad e) h p = tt
+  farther : (i j : ℕ) (q : Result ℕ ℕ) → i ≤ j → Past j q → Past i q
+  farther i j (Ok e) h p = (omega arith, p.1)
+  farther i j (Err e) h p = tt
 
-  then-past : (i : ℕ) (q : Scan) (k : ℕ → Scan) → Past i q → ((e : ℕ) → StopsWithin s e (k e)) → Past i (and_then q k)
+  then-past : (i : ℕ) (q : Result ℕ ℕ) (k : ℕ → Result ℕ ℕ) → Past i q → ((e : ℕ) → StopsWithin s e (k e)) → Past i (and_then q k)
   unfolding and_then
-  then-past i (Bad e) k p f = tt
-  then-past i (End e) k p f = go (k e) (f e)
+  then-past i (Err e) k p f = tt
+  then-past i (Ok e) k p f = go (k e) (f e)
     where
-      go : (q : Scan) → StopsWithin s e q → Past i q
-      go (End j) w = (omega arith, omega arith)
-      go (Bad j) w = tt
+      go : (q : Result ℕ ℕ) → StopsWithin s e q → Past i q
+      go (Ok j) w = (omega arith, omega arith)
+      go (Err j) w = tt
 
   -- ---- numbers, words and strings
 
@@ -97,7 +96,7 @@ module _ (s : List ℕ) where
   unfolding key_at
   key-past at = then-past at (string_at s at) (λ e. colon s (ws s e)) (string-past at) (λ e. ws_then s e _ (colon_stops s (ws s e)))
 
-  kind-past : (at : ℕ) (a o : ℕ → Scan) → (eqb (byte s at) 91 ≡ true → Past at (a at)) → (eqb (byte s at) 123 ≡ true → Past at (o at)) → (k : Kind) → Of s (byte s at) k → Past at (value_of k a o s at)
+  kind-past : (at : ℕ) (a o : ℕ → Result ℕ ℕ) → (eqb (byte s at) 91 ≡ true → Past at (a at)) → (eqb (byte s at) 123 ≡ true → Past at (o at)) → (k : Kind) → Of s (byte s at) k → Past at (value_of k a o s at)
   unfolding value_of
   kind-past at a o p q bracket h = p h
   kind-past at a o p q brace h = q h
@@ -109,7 +108,7 @@ module _ (s : List ℕ) where
 
   pub value-past : (d at : ℕ) → Past at (value_at d s at)
   unfolding value_at
-  value-past zero at = kind-past at Bad Bad (λ e. tt) (λ e. tt) (kind_of (byte s at)) (kind_of_lem s (byte s at))
+  value-past zero at = kind-past at Err Err (λ e. tt) (λ e. tt) (kind_of (byte s at)) (kind_of_lem s (byte s at))
   value-past (suc d) at =
       kind-past at (λ i. array_of (λ j. value_at d s j) s i) (λ i. object_of (λ j. value_at d s j) s i)
       (λ e. behind at _ (hit s at 91 e (omega arith)) (array_stops s d at))

@@ -1,4 +1,5 @@
 -- The place that the reader answers for a text that is not JSON, and the least of the places of a text at fault.
+use Rattle.std.specs.Prelude.{Err, Ok, Result}
 use Prim.Native.Nat.{ℕ, suc, ◌+◌, ◌≤◌, ◌<◌, min}
 use native.Mathlib.Nat.{min-eq_left, min-eq_right}
 use native.Mathlib.Omega.{arith}
@@ -17,8 +18,6 @@ use Rattle.text.proofs.Utf8.{is_utf8_is}
 use Rattle.text.proofs.Utf8Place.{AllAscii, completion, utf8_reach_lem}
 use Rattle.json_text.specs.Bytes.{byte}
 use Rattle.json_text.specs.Value.{document_of, opens}
-use Rattle.json_text.specs.declared.Scan.{Scan}
-use Rattle.json_text.specs.declared.Scan.TheVariants.{End, Bad}
 use Rattle.json_text.proofs.Bytes.{split, both}
 use Rattle.json_grammar.specs.Rfc8259 as G
 use Rattle.json_grammar.specs.Place.{JsonOfAnyDepth, JsonText, TooDeep, NotJsonAt, is_not_json, not-utf8, too-deep, too_long, reach_of, json_place, text_place}
@@ -43,13 +42,13 @@ module _ (d : ℕ) where
     pub ascii : AllAscii rest
     pub is : To (s ++ rest)
 
-  pub reads : (s : List ℕ) → To s → document_at d s ≡ End (length s)
+  pub reads : (s : List ℕ) → To s → document_at d s ≡ Ok (length s)
   reads s w = complete s d (whole-lead G.rules d G.JSON-text w)
 
-  not_to : (s : List ℕ) (p : ℕ) → document_at d s ≡ Bad p → To s → ⊥
+  not_to : (s : List ℕ) (p : ℕ) → document_at d s ≡ Err p → To s → ⊥
   not_to s p e w = let f = reads s w in let z : ◌≡◌ {A = ℕ} 0 1 = cc in omega arith
 
-  module _ (s : List ℕ) (p : ℕ) (e : document_at d s ≡ Bad p) where
+  module _ (s : List ℕ) (p : ℕ) (e : document_at d s ≡ Err p) where
     bad-inside : p ≤ length s
     bad-inside = let w = document_stops s d in let z : reach_of (document_at d s) ≡ p = ap reach_of e in omega arith
 
@@ -63,7 +62,7 @@ module _ (d : ℕ) where
         record { rest = b.rest; ascii = b.ascii; is = rw c (rw (append-nil b.rest) at (lead-whole G.rules d G.JSON-text (b.is []))) }
 
     -- what begins so fails there too
-    bad-again : (t : List ℕ) → p < length s → document_at d (take (p + 1) s ++ t) ≡ Bad p
+    bad-again : (t : List ℕ) → p < length s → document_at d (take (p + 1) s ++ t) ≡ Err p
     bad-again t h =
         let n = length-take-le (p + 1) s (omega arith) in
         same_place d (take (p + 1) s) (drop (p + 1) s) t p (omega arith) (ap (document_at d) (take-append-drop (p + 1) s) ∙ e)
@@ -75,12 +74,12 @@ module _ (d : ℕ) where
     }
 
   -- a text is JSON or has a place
-  pub decide {ℓ} : {X : Type ℓ} (s : List ℕ) → (To s → document_at d s ≡ End (length s) → X) → ((p : ℕ) → document_at d s ≡ Bad p → X) → X
+  pub decide {ℓ} : {X : Type ℓ} (s : List ℕ) → (To s → document_at d s ≡ Ok (length s) → X) → ((p : ℕ) → document_at d s ≡ Err p → X) → X
   decide {X = X} s f g = go (document_at d s) refl
     where
-      go : (q : Scan) → document_at d s ≡ q → X
-      go (End e) h = let k : document_at d s ≡ End (length s) = h ∙ ap End (ends_at d s e h) in f (lead-whole G.rules d G.JSON-text (sound s d k)) k
-      go (Bad p) h = g p h
+      go : (q : Result ℕ ℕ) → document_at d s ≡ q → X
+      go (Ok e) h = let k : document_at d s ≡ Ok (length s) = h ∙ ap Ok (ends_at d s e h) in f (lead-whole G.rules d G.JSON-text (sound s d k)) k
+      go (Err p) h = g p h
 
   reach : (s : List ℕ) → Furthest To s (reach_of (document_at d s))
   reach s = decide s (λ w e. rw e (viable-end To s (whole_viable To s w))) (λ p e. rw e (bad-place s p e).furthest)
@@ -94,10 +93,10 @@ module _ (d : ℕ) where
 
 -- ---- the reader's place
 
-pub first-bad : (s : List ℕ) (p : ℕ) → (document_of s ≡ Bad p) ↔ FirstBad (G.JSON 16) s p
+pub first-bad : (s : List ℕ) (p : ℕ) → (document_of s ≡ Err p) ↔ FirstBad (G.JSON 16) s p
 first-bad s p = (
   (λ e. bad-place 16 s p (sym (document_16 s) ∙ e)),
-  (λ f. decide 16 s (λ w e. absurd (f.fails w)) (λ q e. document_16 s ∙ e ∙ ap Bad (one_place (G.JSON 16) s q p (bad-place 16 s q e).furthest f.furthest))),
+  (λ f. decide 16 s (λ w e. absurd (f.fails w)) (λ q e. document_16 s ∙ e ∙ ap Err (one_place (G.JSON 16) s q p (bad-place 16 s q e).furthest f.furthest))),
 )
 
 pub json_reach : (s : List ℕ) → Furthest (G.JSON 16) s (json_place s)
@@ -124,19 +123,19 @@ text-place s p n = (λ e. rw e (record { fails = n; furthest = text_reach s }), 
 -- ---- depth
 
 -- a text stays JSON where more depth is allowed
-raised : (d k : ℕ) (s : List ℕ) → G.JSON d s → document_at (deep d k) s ≡ End (length s)
+raised : (d k : ℕ) (s : List ℕ) → G.JSON d s → document_at (deep d k) s ≡ Ok (length s)
 raised d k s w = go (document_spread s d)
   where
-    go : Spread s (document_at d s) (λ j. document_at (deep d j) s) → document_at (deep d k) s ≡ End (length s)
+    go : Spread s (document_at d s) (λ j. document_at (deep d j) s) → document_at (deep d k) s ≡ Ok (length s)
     go (inl f) = f k ∙ reads d s w
     go (inr p) = absurd (not_to d s p.at p.bad w)
 
 -- where 17 levels and more all fail at p, nothing is JSON that begins so
-module _ (s : List ℕ) (p : ℕ) (f : (k : ℕ) → document_at (deep 16 k) s ≡ Bad p) where
-  never_json : (d : ℕ) (l : List ℕ) → document_at (deep 16 d) l ≡ Bad p → G.JSON d l → ⊥
+module _ (s : List ℕ) (p : ℕ) (f : (k : ℕ) → document_at (deep 16 k) s ≡ Err p) where
+  never_json : (d : ℕ) (l : List ℕ) → document_at (deep 16 d) l ≡ Err p → G.JSON d l → ⊥
   never_json d l e w =
       let q : deep d 16 ≡ deep 16 d = deep_is d 16 ∙ (let z : suc (d + 16) ≡ suc (16 + d) = omega arith in z) ∙ sym (deep_is 16 d) in
-      let r : document_at (deep 16 d) l ≡ End (length l) = ap (λ (n : ℕ). document_at n l) (sym q) ∙ raised d 16 l w in
+      let r : document_at (deep 16 d) l ≡ Ok (length l) = ap (λ (n : ℕ). document_at n l) (sym q) ∙ raised d 16 l w in
       let z : ◌≡◌ {A = ℕ} 0 1 = cc in omega arith
 
   no_json : FirstBad (G.JSON 16) s p → FirstBad JsonOfAnyDepth s p
@@ -150,7 +149,7 @@ module _ (s : List ℕ) (p : ℕ) (f : (k : ℕ) → document_at (deep 16 k) s �
   }
 
 -- the reader fails where nothing goes on at any depth, or at the bracket too deep
-bad_or-deep : (s : List ℕ) (p : ℕ) → document_at 16 s ≡ Bad p → FirstBad JsonOfAnyDepth s p ⊎ TooDeep 16 s p
+bad_or-deep : (s : List ℕ) (p : ℕ) → document_at 16 s ≡ Err p → FirstBad JsonOfAnyDepth s p ⊎ TooDeep 16 s p
 bad_or-deep s p e = go (document_spread s 16)
   where
     go : Spread s (document_at 16 s) (λ k. document_at (deep 16 k) s) → FirstBad JsonOfAnyDepth s p ⊎ TooDeep 16 s p
@@ -169,10 +168,10 @@ bad_or-deep s p e = go (document_spread s 16)
           past = viable-less (λ (l : List ℕ). G.JSON 17 l) s (p + 1) (reach_of (document_at 17 s)) (omega arith) r.before;
         })
 
-pub reader-deep : (s : List ℕ) (p : ℕ) → document_of s ≡ Bad p → FirstBad JsonOfAnyDepth s p ⊎ TooDeep 16 s p
+pub reader-deep : (s : List ℕ) (p : ℕ) → document_of s ≡ Err p → FirstBad JsonOfAnyDepth s p ⊎ TooDeep 16 s p
 reader-deep s p e = bad_or-deep s p (sym (document_16 s) ∙ e)
 
-reader-fault : (s : List ℕ) (p : ℕ) → document_at 16 s ≡ Bad p → NotJsonAt s p
+reader-fault : (s : List ℕ) (p : ℕ) → document_at 16 s ≡ Err p → NotJsonAt s p
 reader-fault s p e = go (bad_or-deep s p e)
   where
     go : FirstBad JsonOfAnyDepth s p ⊎ TooDeep 16 s p → NotJsonAt s p

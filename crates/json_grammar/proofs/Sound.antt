@@ -1,4 +1,5 @@
 -- What the reader accepts is in the grammar; and where it fails, what it has read can be completed.
+use Rattle.std.specs.Prelude.{Err, Ok, Result}
 use Prim.Native.Nat.{ℕ, zero, suc, ◌+◌, ◌≤◌, ◌<◌}
 use native.Mathlib.Numerals.{add-one}
 use native.Mathlib.Omega.{arith}
@@ -15,8 +16,6 @@ use Rattle.json_text.specs.Bytes.{byte, run, past, is_ws, ws, word, and_then}
 use Rattle.json_text.specs.Strings.{is_hex, is_escape, plain_step, escape_step, hex_step, text_step, text, string_at}
 use Rattle.json_text.specs.Number.{is_digit, digits_end, optional, is_minus, is_sign, some_digits, int_at, frac_at, is_exp, exp_at, number_at}
 use Rattle.json_text.specs.Value.{Kind, bracket, brace, quote, true_word, false_word, null_word, other, kind_of, after, series, list_of, array_of, colon, key_at, member_of, object_of, value_of, value_at, at_end, document_of, opens}
-use Rattle.json_text.specs.declared.Scan.{Scan}
-use Rattle.json_text.specs.declared.Scan.TheVariants.{End, Bad}
 use Rattle.json_text.specs.declared.string.State.{State}
 use Rattle.json_text.specs.declared.string.State.TheVariants.{Plain, Escape, Hex4, Hex3, Hex2, Hex1}
 use Rattle.json_text.specs.declared.string.Move.{Move}
@@ -180,11 +179,11 @@ step Hex1 b = step_hex Hex1 Plain b (λ m r d h. (m, d, h))
 
 module _ (s : List ℕ) where
   -- where a scan ended the grammar's word did; where it failed, the word breaks off
-  abbrev pub SoundFrom : Json → List ℕ → Scan → Type 0
-  SoundFrom g l (End e) = Lead g l (drop e s)
-  SoundFrom g l (Bad e) = Broken g l (drop e s)
+  abbrev pub SoundFrom : Json → List ℕ → Result ℕ ℕ → Type 0
+  SoundFrom g l (Ok e) = Lead g l (drop e s)
+  SoundFrom g l (Err e) = Broken g l (drop e s)
 
-  abbrev pub Sound : Json → ℕ → Scan → Type 0
+  abbrev pub Sound : Json → ℕ → Result ℕ ℕ → Type 0
   Sound g at r = SoundFrom g (drop at s) r
 
   text-sound : (t : State) (l : List ℕ) (at : ℕ) → l ≡ drop at s → SoundFrom (Rest t) l (text t l at)
@@ -196,9 +195,9 @@ module _ (s : List ℕ) where
       tail : bs ≡ drop (at + 1) s
       tail = ap (λ (l : List ℕ). drop 1 l) e ∙ drop-drop 1 at s
 
-      up : (u : State) → Step t b (Go u) → (r : Scan) → SoundFrom (Rest u) bs r → SoundFrom (Rest t) (b ∷ bs) r
-      up u f (End k) w = f bs (drop k s) w
-      up u f (Bad k) w = record { word = b ∷ w.word; rest = w.rest; cut = ap (λ (l : List ℕ). b ∷ l) w.cut; ascii = w.ascii; is = λ m. f _ m (w.is m) }
+      up : (u : State) → Step t b (Go u) → (r : Result ℕ ℕ) → SoundFrom (Rest u) bs r → SoundFrom (Rest t) (b ∷ bs) r
+      up u f (Ok k) w = f bs (drop k s) w
+      up u f (Err k) w = record { word = b ∷ w.word; rest = w.rest; cut = ap (λ (l : List ℕ). b ∷ l) w.cut; ascii = w.ascii; is = λ m. f _ m (w.is m) }
 
       go : (v : Move) → text_step t b ≡ v → Step t b v → ((u : State) → SoundFrom (Rest u) bs (text u bs (at + 1))) → SoundFrom (Rest t) (b ∷ bs) (text t (b ∷ bs) at)
       go (Go u) p f ih = rw (p, text) (up u f (text u bs (at + 1)) (ih u))
@@ -225,18 +224,18 @@ module _ (s : List ℕ) where
   at-digits at = rw (drop-drop (run is_digit (drop at s)) at s) at (run-lead is_digit G.DIGIT lead-digit (drop at s))
 
   -- a scan of more, a scan after a word, two scans one after the other
-  up : (a c : Json) → Into a c → (i : ℕ) (q : Scan) → Sound a i q → Sound c i q
-  up a c f i (End e) w = f (drop i s) (drop e s) w
-  up a c f i (Bad e) w = broken_into a c f w
+  up : (a c : Json) → Into a c → (i : ℕ) (q : Result ℕ ℕ) → Sound a i q → Sound c i q
+  up a c f i (Ok e) w = f (drop i s) (drop e s) w
+  up a c f i (Err e) w = broken_into a c f w
 
-  past_word : (a b c : Json) → Joins a b c → (i k : ℕ) → Lead a (drop i s) (drop k s) → (q : Scan) → Sound b k q → Sound c i q
-  past_word a b c j i k w (End e) v = j (drop i s) (drop k s) (drop e s) w v
-  past_word a b c j i k w (Bad e) v = behind a b c j w v
+  past_word : (a b c : Json) → Joins a b c → (i k : ℕ) → Lead a (drop i s) (drop k s) → (q : Result ℕ ℕ) → Sound b k q → Sound c i q
+  past_word a b c j i k w (Ok e) v = j (drop i s) (drop k s) (drop e s) w v
+  past_word a b c j i k w (Err e) v = behind a b c j w v
 
-  seq : (a b c : Json) → Joins a b c → AsciiWord b → (i : ℕ) (q : Scan) (k : ℕ → Scan) → Sound a i q → ((e : ℕ) → Sound b e (k e)) → Sound c i (and_then q k)
+  seq : (a b c : Json) → Joins a b c → AsciiWord b → (i : ℕ) (q : Result ℕ ℕ) (k : ℕ → Result ℕ ℕ) → Sound a i q → ((e : ℕ) → Sound b e (k e)) → Sound c i (and_then q k)
   unfolding and_then
-  seq a b c j p i (End e) k w f = past_word a b c j i e w (k e) (f e)
-  seq a b c j p i (Bad e) k w f = before a b c j w p
+  seq a b c j p i (Ok e) k w f = past_word a b c j i e w (k e) (f e)
+  seq a b c j p i (Err e) k w f = before a b c j w p
 
   string-sound : (at : ℕ) → Sound G.string at (string_at s at)
   unfolding string_at
@@ -324,14 +323,14 @@ module _ (s : List ℕ) where
   missing a k at h f = behind G.ws (x k · G.ws) a (λ i j m u v. f i m (j, u, v)) (at-ws at) (fresh (some-shut k h) (drop (ws s at) s))
 
   -- items; Tail is what may follow one
-  module _ (I : Json) (item : ℕ → Scan) (close : ℕ) (small : close < 128) (one : AsciiWord I) (ok : (i : ℕ) → Sound I i (item i)) where
+  module _ (I : Json) (item : ℕ → Result ℕ ℕ) (close : ℕ) (small : close < 128) (one : AsciiWord I) (ok : (i : ℕ) → Sound I i (item i)) where
     abbrev Tail : Json
     Tail = ∗ (G.value-separator · I) · (G.ws · x close · G.ws)
 
     some_end : AsciiWord Tail
     some_end = some-join some-none (some_token close small)
 
-    after-sound : (next : ℕ → Scan) → ((i : ℕ) → Sound (I · Tail) i (next i)) → (e : ℕ) → Sound Tail e (after next close s (ws s e))
+    after-sound : (next : ℕ → Result ℕ ℕ) → ((i : ℕ) → Sound (I · Tail) i (next i)) → (e : ℕ) → Sound Tail e (after next close s (ws s e))
     unfolding after
     after-sound next f e = let j : ℕ = ws s (ws s e + 1) in both (eqb (byte s (ws s e)) 44)
         (λ b. rw (b, after) (past_word G.value-separator (I · Tail) Tail (λ k l m u v. (v.2.0, again (l, u, v.1) v.2.1, v.2.2)) e j (token e 44 b (omega arith)) (next j) (f j)))
@@ -360,7 +359,7 @@ module _ (s : List ℕ) where
   unfolding key_at
   key-sound at = seq G.string G.name-separator (G.string · G.name-separator) (λ k l m u v. (l, u, v)) (some_token 58 (omega arith)) at (string_at s at) _ (string-sound at) colon-sound
 
-  module _ (A : Json) (v : ℕ → Scan) (one : AsciiWord A) (ok : (i : ℕ) → Sound A i (v i)) where
+  module _ (A : Json) (v : ℕ → Result ℕ ℕ) (one : AsciiWord A) (ok : (i : ℕ) → Sound A i (v i)) where
     array-sound : (at : ℕ) → eqb (byte s at) 91 ≡ true → Sound (array_over A) at (array_of v s at)
     unfolding array_of
     array-sound at e = past_word G.begin-array (opt (A · ∗ (G.value-separator · A)) · G.end-array) (array_over A) (λ k l m u w. (l, u, w)) at (ws s (at + 1)) (begins at 91 e (omega arith)) (array_of v s at) (list-sound A v 93 (omega arith) one ok (ws s (at + 1)))
@@ -397,17 +396,17 @@ module _ (s : List ℕ) where
       (both (eqb b 110) (λ j. rw j tt) (λ j. rw j tt))))))
 
   -- what a value of this depth may be that is no array and no object; where no depth is left, a number can stand for either
-  leaf : (d at : ℕ) (k : Kind) → Of (byte s at) k → Sound (value d) at (value_of k Bad Bad s at)
+  leaf : (d at : ℕ) (k : Kind) → Of (byte s at) k → Sound (value d) at (value_of k Err Err s at)
   unfolding value_of value
   leaf d at bracket h = fresh (some-value d) (drop at s)
   leaf d at brace h = fresh (some-value d) (drop at s)
   leaf d at quote h = up G.string (value d) (λ l r w. inr (inr (inr (inr (inr (inr w)))))) at (string_at s at) (string-sound at)
-  leaf d at true_word h = up G.true (value d) (λ l r w. inr (inr (inl w))) at (value_of true_word Bad Bad s at) (word_sound (116 ∷ 114 ∷ 117 ∷ 101 ∷ []) at (omega arith))
-  leaf d at false_word h = up G.false (value d) (λ l r w. inl w) at (value_of false_word Bad Bad s at) (word_sound (102 ∷ 97 ∷ 108 ∷ 115 ∷ 101 ∷ []) at (omega arith))
-  leaf d at null_word h = up G.null (value d) (λ l r w. inr (inl w)) at (value_of null_word Bad Bad s at) (word_sound (110 ∷ 117 ∷ 108 ∷ 108 ∷ []) at (omega arith))
+  leaf d at true_word h = up G.true (value d) (λ l r w. inr (inr (inl w))) at (value_of true_word Err Err s at) (word_sound (116 ∷ 114 ∷ 117 ∷ 101 ∷ []) at (omega arith))
+  leaf d at false_word h = up G.false (value d) (λ l r w. inl w) at (value_of false_word Err Err s at) (word_sound (102 ∷ 97 ∷ 108 ∷ 115 ∷ 101 ∷ []) at (omega arith))
+  leaf d at null_word h = up G.null (value d) (λ l r w. inr (inl w)) at (value_of null_word Err Err s at) (word_sound (110 ∷ 117 ∷ 108 ∷ 108 ∷ []) at (omega arith))
   leaf d at other h = up G.number (value d) (λ l r w. inr (inr (inr (inr (inr (inl w)))))) at (number_at s at) (number-sound at)
 
-  node : (d at : ℕ) (a o : ℕ → Scan) → (eqb (byte s at) 91 ≡ true → Sound (array_over (value d)) at (a at)) → (eqb (byte s at) 123 ≡ true → Sound (object_over (value d)) at (o at)) →
+  node : (d at : ℕ) (a o : ℕ → Result ℕ ℕ) → (eqb (byte s at) 91 ≡ true → Sound (array_over (value d)) at (a at)) → (eqb (byte s at) 123 ≡ true → Sound (object_over (value d)) at (o at)) →
       (k : Kind) → Of (byte s at) k → Sound (value (suc d)) at (value_of k a o s at)
   unfolding value_of value
   node d at a o f g bracket h = up (array_over (value d)) (value (suc d)) (λ l r w. inr (inr (inr (inr (inl w))))) at (a at) (f h)
@@ -448,8 +447,8 @@ module _ (s : List ℕ) where
   container-value : (d at : ℕ) → opens (byte s at) ≡ true → Sound (object_over (value d) // array_over (value d)) at (value_at (suc d) s at)
   unfolding value_at kind_of value_of opens
   container-value d at e =
-      let a : ℕ → Scan = λ i. array_of (λ j. value_at d s j) s i in
-      let o : ℕ → Scan = λ i. object_of (λ j. value_at d s j) s i in
+      let a : ℕ → (Result ℕ ℕ) = λ i. array_of (λ j. value_at d s j) s i in
+      let o : ℕ → (Result ℕ ℕ) = λ i. object_of (λ j. value_at d s j) s i in
       or_cases (eqb (byte s at) 91) (eqb (byte s at) 123) e
       (λ p. rw p (up (array_over (value d)) (object_over (value d) // array_over (value d)) (λ l r w. inr w) at (a at) (array-sound (value d) (λ j. value_at d s j) (some-value d) (λ j. value-sound d j) at p)))
       (λ p. let q : byte s at ≡ 123 = eqb-true _ _ p in rw q (up (object_over (value d)) (object_over (value d) // array_over (value d)) (λ l r w. inl w) at (o at) (object-sound (value d) (λ j. value_at d s j) (some-value d) (λ j. value-sound d j) at p)))
@@ -458,15 +457,15 @@ module _ (s : List ℕ) where
   unfolding value
   container-sound e = around 16 (object_over (value 15) // array_over (value 15)) (container-value 15 (ws s 0) e)
 
-  to_end : (a : Json) (d : ℕ) → document_at d s ≡ End (length s) → Sound a 0 (document_at d s) → Lead a s []
+  to_end : (a : Json) (d : ℕ) → document_at d s ≡ Ok (length s) → Sound a 0 (document_at d s) → Lead a s []
   to_end a d e w = rw (drop-length s) at (subst (SoundFrom a s) e w)
 
-  pub sound : (d : ℕ) → document_at d s ≡ End (length s) → Lead (expand G.rules d G.JSON-text) s []
+  pub sound : (d : ℕ) → document_at d s ≡ Ok (length s) → Lead (expand G.rules d G.JSON-text) s []
   sound d e = to_end (expand G.rules d G.JSON-text) d e (document-sound d)
 
-  pub sound-container : document_of s ≡ End (length s) → opens (byte s (ws s 0)) ≡ true → Lead (expand G.rules 16 G.container) s []
+  pub sound-container : document_of s ≡ Ok (length s) → opens (byte s (ws s 0)) ≡ true → Lead (expand G.rules 16 G.container) s []
   sound-container e b = to_end (expand G.rules 16 G.container) 16 (sym (document_16 s) ∙ e) (container-sound b)
 
   -- what is read before a bad place can be completed
-  pub broken : (d p : ℕ) → document_at d s ≡ Bad p → Broken (expand G.rules d G.JSON-text) s (drop p s)
+  pub broken : (d p : ℕ) → document_at d s ≡ Err p → Broken (expand G.rules d G.JSON-text) s (drop p s)
   broken d p e = subst (SoundFrom (expand G.rules d G.JSON-text) s) e (document-sound d)

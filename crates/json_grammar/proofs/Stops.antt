@@ -1,4 +1,5 @@
 -- Where a scan stops, well or not: not before its start, and inside the text.
+use Rattle.std.specs.Prelude.{Err, Ok, Result}
 use Prim.Native.Nat.{ℕ, zero, suc, ◌+◌, ◌-◌, ◌≤◌, ◌<◌}
 use native.Mathlib.Omega.{arith}
 use mathlib.Core.Path.{◌≡◌, refl}
@@ -11,8 +12,6 @@ use Rattle.json_text.specs.Bytes.{byte, run, past, is_ws, ws, word, and_then}
 use Rattle.json_text.specs.Strings.{text_step, text, string_at}
 use Rattle.json_text.specs.Number.{is_digit, digits_end, optional, is_minus, is_sign, some_digits, int_at, frac_at, is_exp, exp_at, number_at}
 use Rattle.json_text.specs.Value.{Kind, bracket, brace, quote, true_word, false_word, null_word, other, kind_of, after, series, list_of, array_of, colon, key_at, member_of, object_of, value_of, value_at, at_end}
-use Rattle.json_text.specs.declared.Scan.{Scan}
-use Rattle.json_text.specs.declared.Scan.TheVariants.{End, Bad}
 use Rattle.json_text.specs.declared.string.State.{State}
 use Rattle.json_text.specs.declared.string.State.TheVariants.{Plain}
 use Rattle.json_text.specs.declared.string.Move.{Move}
@@ -30,7 +29,7 @@ unfolding run
 run-upto p [] = omega arith
 run-upto p (b ∷ l) = let h = run-upto p l in both (p b) (λ e. rw (e, run) (omega arith)) (λ e. rw (e, run) (omega arith))
 
-pub record Spans (t : State) (l : List ℕ) (at : ℕ) (q : Scan) : Type 0 where
+pub record Spans (t : State) (l : List ℕ) (at : ℕ) (q : Result ℕ ℕ) : Type 0 where
   pub from : at ≤ reach_of q
   pub upto : reach_of q ≤ at + length l
 
@@ -46,36 +45,36 @@ text_spans t (b ∷ l) at = go (text_step t b) refl (λ u. text_spans u l (at + 
 
 module _ (s : List ℕ) where
   -- not before `at`, and not past the end unless `at` is
-  pub record StopsWithin (at : ℕ) (q : Scan) : Type 0 where
+  pub record StopsWithin (at : ℕ) (q : Result ℕ ℕ) : Type 0 where
     pub from : at ≤ reach_of q
     pub upto : reach_of q - length s ≤ at - length s
 
-  pub later : {at k : ℕ} {q : Scan} → at ≤ k → k - length s ≤ at - length s → StopsWithin k q → StopsWithin at q
+  pub later : {at k : ℕ} {q : Result ℕ ℕ} → at ≤ k → k - length s ≤ at - length s → StopsWithin k q → StopsWithin at q
   later h g w = record { from = omega arith; upto = omega arith }
 
   pub hit : (at k : ℕ) → eqb (byte s at) k ≡ true → k < 256 → at < length s
   hit at k e h = inside= s at k (eqb-true _ _ e) h
 
-  pub stays : (at : ℕ) (q : Scan) → reach_of q ≡ at → StopsWithin at q
+  pub stays : (at : ℕ) (q : Result ℕ ℕ) → reach_of q ≡ at → StopsWithin at q
   stays at q e = record { from = omega arith; upto = omega arith }
 
-  pub steps : (at : ℕ) (q : Scan) → at < length s → StopsWithin (at + 1) q → StopsWithin at q
+  pub steps : (at : ℕ) (q : Result ℕ ℕ) → at < length s → StopsWithin (at + 1) q → StopsWithin at q
   steps at q h w = record { from = omega arith; upto = omega arith }
 
-  pub then_stops : {at : ℕ} (q : Scan) (k : ℕ → Scan) → StopsWithin at q → ((e : ℕ) → StopsWithin e (k e)) → StopsWithin at (and_then q k)
+  pub then_stops : {at : ℕ} (q : Result ℕ ℕ) (k : ℕ → Result ℕ ℕ) → StopsWithin at q → ((e : ℕ) → StopsWithin e (k e)) → StopsWithin at (and_then q k)
   unfolding and_then
-  then_stops (End e) k w f = later w.from w.upto (f e)
-  then_stops (Bad e) k w f = w
+  then_stops (Ok e) k w f = later w.from w.upto (f e)
+  then_stops (Err e) k w f = w
 
-  pub past_stops : (p : ℕ → Bool) (at : ℕ) → StopsWithin at (End (past p s at))
+  pub past_stops : (p : ℕ → Bool) (at : ℕ) → StopsWithin at (Ok (past p s at))
   unfolding past
   past_stops p at = let h = run-upto p (drop at s) in let g = length-drop at s in record { from = omega arith; upto = omega arith }
 
-  pub ws_stops : (at : ℕ) → StopsWithin at (End (ws s at))
+  pub ws_stops : (at : ℕ) → StopsWithin at (Ok (ws s at))
   unfolding ws
   ws_stops at = past_stops is_ws at
 
-  pub ws_then : (at : ℕ) (q : Scan) → StopsWithin (ws s at) q → StopsWithin at q
+  pub ws_then : (at : ℕ) (q : Result ℕ ℕ) → StopsWithin (ws s at) q → StopsWithin at q
   ws_then at q w = let z = ws_stops at in later z.from z.upto w
 
   pub text_stops : (t : State) (at : ℕ) → StopsWithin at (text t (drop at s) at)
@@ -101,7 +100,7 @@ module _ (s : List ℕ) where
   unfolding frac_at
   frac_stops at = both (eqb (byte s at) 46) (λ e. rw (e, frac_at) (steps at _ (hit at 46 e (omega arith)) (some_stops (at + 1)))) (λ e. rw (e, frac_at) (stays at _ refl))
 
-  pub optional_stops : (p : ℕ → Bool) (at : ℕ) → p 256 ≡ false → StopsWithin at (End (optional p s at))
+  pub optional_stops : (p : ℕ → Bool) (at : ℕ) → p 256 ≡ false → StopsWithin at (Ok (optional p s at))
   unfolding optional
   optional_stops p at n = both (p (byte s at))
       (λ e. let h = past-inside p s at n e in rw (e, optional) (record { from = omega arith; upto = omega arith }))
@@ -128,8 +127,8 @@ module _ (s : List ℕ) where
       (λ e. rw (e, word) (steps at _ (hit at b e h.0) r))
       (λ e. rw (e, word) (stays at _ refl))
 
-  module _ (item : ℕ → Scan) (close : ℕ) (small : close < 256) (ok : (i : ℕ) → StopsWithin i (item i)) where
-    pub after_stops : (next : ℕ → Scan) → ((i : ℕ) → StopsWithin i (next i)) → (j : ℕ) → StopsWithin j (after next close s j)
+  module _ (item : ℕ → Result ℕ ℕ) (close : ℕ) (small : close < 256) (ok : (i : ℕ) → StopsWithin i (item i)) where
+    pub after_stops : (next : ℕ → Result ℕ ℕ) → ((i : ℕ) → StopsWithin i (next i)) → (j : ℕ) → StopsWithin j (after next close s j)
     unfolding after
     after_stops next f j = both (eqb (byte s j) 44)
         (λ e. rw (e, after) (steps j _ (hit j 44 e (omega arith)) (ws_then (j + 1) _ (f (ws s (j + 1))))))
@@ -158,12 +157,12 @@ module _ (s : List ℕ) where
   unfolding key_at
   key_stops at = then_stops (string_at s at) _ (string_stops at) (λ e. ws_then e _ (colon_stops (ws s e)))
 
-  pub member_stops : (v : ℕ → Scan) → ((i : ℕ) → StopsWithin i (v i)) → (at : ℕ) → StopsWithin at (member_of v s at)
+  pub member_stops : (v : ℕ → Result ℕ ℕ) → ((i : ℕ) → StopsWithin i (v i)) → (at : ℕ) → StopsWithin at (member_of v s at)
   unfolding member_of
   member_stops v f at = then_stops (key_at s at) v (key_stops at) f
 
   -- a value by its kind, arrays and objects given
-  pub of_stops : (k : Kind) (a o : ℕ → Scan) (at : ℕ) → StopsWithin at (a at) → StopsWithin at (o at) → StopsWithin at (value_of k a o s at)
+  pub of_stops : (k : Kind) (a o : ℕ → Result ℕ ℕ) (at : ℕ) → StopsWithin at (a at) → StopsWithin at (o at) → StopsWithin at (value_of k a o s at)
   unfolding value_of
   of_stops bracket a o at f g = f
   of_stops brace a o at f g = g
@@ -174,12 +173,12 @@ module _ (s : List ℕ) where
   of_stops other a o at f g = number_stops at
 
   -- what stands after an opening byte
-  pub inner_stops : (item : ℕ → Scan) (close at : ℕ) → close < 256 → at < length s → ((i : ℕ) → StopsWithin i (item i)) → StopsWithin at (list_of item close s (ws s (at + 1)))
+  pub inner_stops : (item : ℕ → Result ℕ ℕ) (close at : ℕ) → close < 256 → at < length s → ((i : ℕ) → StopsWithin i (item i)) → StopsWithin at (list_of item close s (ws s (at + 1)))
   inner_stops item close at h g f = steps at _ g (ws_then (at + 1) _ (list_stops item close h f (ws s (at + 1))))
 
   pub value_stops : (d at : ℕ) → StopsWithin at (value_at d s at)
   unfolding value_at value_of kind_of array_of object_of
-  value_stops zero at = of_stops (kind_of (byte s at)) Bad Bad at (stays at _ refl) (stays at _ refl)
+  value_stops zero at = of_stops (kind_of (byte s at)) Err Err at (stays at _ refl) (stays at _ refl)
   value_stops (suc d) at = split (length s) at
       (λ h. rw (byte_out s at h) (number_stops at))
       (λ h. of_stops (kind_of (byte s at)) (λ i. array_of (λ j. value_at d s j) s i) (λ i. object_of (λ j. value_at d s j) s i) at

@@ -1,5 +1,6 @@
 -- What the definition of the reader (crate json_text) comes to, against the grammar of RFC 8259 (specs/Rfc8259.antt), over bytes. A JSON text is UTF-8 besides:
 -- that is judged apart, before (crate text, `is_utf8`), and only the last theorems here speak of it.
+use Rattle.std.specs.Prelude.{Err, Ok}
 use Prim.Native.Nat.{ℕ, ◌≤◌}
 use mathlib.Core.Path.{◌≡◌, sym, ◌∙◌}
 use mathlib.Core.Logic.{◌↔◌, ◌⊎◌}
@@ -12,7 +13,6 @@ use Rattle.json_text.specs.Value.{value_at, document_of, is_container}
 use Rattle.json_text.specs.Members.{members_at, elements_at}
 use Rattle.json_grammar.specs.Rfc8259 as G
 use Rattle.json_grammar.specs.Listing.{StandsWithin, IsMember, IsElement, Holds}
-use Rattle.json_text.specs.declared.Scan.TheVariants.{End, Bad}
 use Rattle.abnf.specs.Place.{FirstBad}
 use Rattle.json_grammar.specs.Place.{JsonOfAnyDepth, JsonText, TooDeep, NotJsonAt, LeastOf, text_place, bad_places, smallest, fault_place}
 use Rattle.json_grammar.proofs.Depth.{document_16}
@@ -25,11 +25,11 @@ use Rattle.json_grammar.proofs.Places.{first-bad, reader-deep, text-place}
 use Rattle.json_grammar.proofs.Smallest.{none_wrong, wrong-smallest, fault-place, no-fault}
 
 -- The reader takes exactly the byte strings of RFC 8259's grammar that are nested at most 16 deep.
-pub reads_json : (s : List ℕ) → (document_of s ≡ End (length s)) ↔ G.JSON 16 s
+pub reads_json : (s : List ℕ) → (document_of s ≡ Ok (length s)) ↔ G.JSON 16 s
 reads_json s = (λ e. lead-whole G.rules 16 G.JSON-text (sound s 16 (sym (document_16 s) ∙ e)), λ w. document_16 s ∙ complete s 16 (whole-lead G.rules 16 G.JSON-text w))
 
--- Where it answers `End`, that is the text's length.
-pub reads_whole : (s : List ℕ) (e : ℕ) → document_of s ≡ End e → e ≡ length s
+-- Where it answers `Ok`, that is the text's length.
+pub reads_whole : (s : List ℕ) (e : ℕ) → document_of s ≡ Ok e → e ≡ length s
 reads_whole s e q = ends s e q
 
 -- What it takes for a container is exactly one array or object with white space around, nested at most 16 deep.
@@ -37,29 +37,29 @@ pub reads-container : (s : List ℕ) → (is_container s ≡ true) ↔ G.Contain
 reads-container s = (container_reads s, container-read s)
 
 -- A value that it finds within a text is one of the grammar's, nested at most so deep.
-pub reads-value : (s : List ℕ) (d at e : ℕ) → value_at d s at ≡ End e → StandsWithin d s at G.value e
+pub reads-value : (s : List ℕ) (d at e : ℕ) → value_at d s at ≡ Ok e → StandsWithin d s at G.value e
 reads-value s d at e q = value-within s d at e q
 
 -- And a value stays one where deeper nesting is allowed.
-pub reads_deeper : (s : List ℕ) (d n at e : ℕ) → d ≤ n → value_at d s at ≡ End e → value_at n s at ≡ End e
+pub reads_deeper : (s : List ℕ) (d n at e : ℕ) → d ≤ n → value_at d s at ≡ Ok e → value_at n s at ≡ Ok e
 reads_deeper s d n at e h q = raise s d n at e h q
 
 -- The members of an object that the reader takes are the grammar's: between its braces stand just these, in this order.
-pub reads-members : (s : List ℕ) (at e : ℕ) → byte s at ≡ 0x7B → value_at 16 s at ≡ End e → Holds s 0x7B 0x7D (IsMember s) at (members_at s at) e
+pub reads-members : (s : List ℕ) (at e : ℕ) → byte s at ≡ 0x7B → value_at 16 s at ≡ Ok e → Holds s 0x7B 0x7D (IsMember s) at (members_at s at) e
 reads-members s at e b q = object-members s at e b q
 
 -- So are the elements of an array.
-pub reads-elements : (s : List ℕ) (at e : ℕ) → byte s at ≡ 0x5B → value_at 16 s at ≡ End e → Holds s 0x5B 0x5D (IsElement s) at (elements_at s at) e
+pub reads-elements : (s : List ℕ) (at e : ℕ) → byte s at ≡ 0x5B → value_at 16 s at ≡ Ok e → Holds s 0x5B 0x5D (IsElement s) at (elements_at s at) e
 reads-elements s at e b q = array-elements s at e b q
 
 -- ---- paper 02, K1: where a text is wrong
 
--- Where the reader answers `Bad p`, and nowhere else, the text is not JSON nested at most 16 deep, and p is the first byte at which no valid continuation exists.
-pub reads-bad : (s : List ℕ) (p : ℕ) → (document_of s ≡ Bad p) ↔ FirstBad (G.JSON 16) s p
+-- Where the reader answers `Err p`, and nowhere else, the text is not JSON nested at most 16 deep, and p is the first byte at which no valid continuation exists.
+pub reads-bad : (s : List ℕ) (p : ℕ) → (document_of s ≡ Err p) ↔ FirstBad (G.JSON 16) s p
 reads-bad = first-bad
 
 -- That is so at any depth, or the byte is the bracket too deep.
-pub reads-deep : (s : List ℕ) (p : ℕ) → document_of s ≡ Bad p → FirstBad JsonOfAnyDepth s p ⊎ TooDeep 16 s p
+pub reads-deep : (s : List ℕ) (p : ℕ) → document_of s ≡ Err p → FirstBad JsonOfAnyDepth s p ⊎ TooDeep 16 s p
 reads-deep = reader-deep
 
 -- The first byte at which a text cannot go on as JSON and as UTF-8 is the smaller of the two places.

@@ -1,13 +1,11 @@
 -- Paper 02, K1: the place of a text that is "not JSON, too deep or over 8,192 bytes". What "the first byte at which no valid continuation exists" is
 -- stands in crate abnf (specs/Place.antt): `FirstBad`. Places count bytes from 0.
-use Rattle.std.specs.Prelude.{ℕ, suc, ◌+◌, ◌≤◌, ◌<◌, min, ◌≡◌, List, [], ◌∷◌, ◌++◌, Bool, true, false, length, take, leb}
+use Rattle.std.specs.Prelude.{ℕ, suc, ◌+◌, ◌≤◌, ◌<◌, min, ◌≡◌, List, [], ◌∷◌, ◌++◌, Bool, true, false, length, take, leb, Err, Ok, Result}
 use Rattle.abnf.specs.Place.{Viable, FirstBad}
 use Rattle.text.specs.Utf8.{is_utf8}
 use Rattle.text.specs.Utf8Place.{Utf8, utf8_place}
 use Rattle.json_text.specs.Bytes.{byte}
 use Rattle.json_text.specs.Value.{document_of, opens}
-use Rattle.json_text.specs.declared.Scan.{Scan}
-use Rattle.json_text.specs.declared.Scan.TheVariants.{End, Bad}
 use Rattle.json_grammar.specs.Rfc8259 as G
 
 -- ---- the languages
@@ -46,9 +44,9 @@ pub record LeastOf (P : ℕ → Type 0) (p : ℕ) : Type 0 where
 -- ---- the places as they are computed
 
 -- where a scan ended or failed
-abbrev pub reach_of : Scan → ℕ
-reach_of (End e) = e
-reach_of (Bad e) = e
+abbrev pub reach_of : Result ℕ ℕ → ℕ
+reach_of (Ok e) = e
+reach_of (Err e) = e
 
 -- the first byte at which a text cannot go on as JSON nested at most 16 deep, and in UTF-8; the length where there is none
 unfoldable pub json_place : List ℕ → ℕ
@@ -58,9 +56,9 @@ unfoldable pub text_place : List ℕ → ℕ
 text_place s = min (json_place s) (utf8_place s)
 
 -- where the reader failed: not JSON, or too deep
-unfoldable pub bad_place : Scan → List ℕ
-bad_place (End e) = []
-bad_place (Bad e) = e ∷ []
+unfoldable pub bad_place : Result ℕ ℕ → List ℕ
+bad_place (Ok e) = []
+bad_place (Err e) = e ∷ []
 
 -- the place, unless the test holds
 unfoldable pub place_unless : Bool → ℕ → List ℕ

@@ -1,17 +1,14 @@
 -- Bytes by index, and runs of them.
-use Prim.Native.Nat.{ℕ, zero, suc, ◌+◌, ◌-◌, ◌≤◌, ◌<◌}
+use Prim.Native.Nat.{ℕ, zero, suc, ◌+◌, ◌-◌, ◌≤◌, ◌<◌, max}
 use native.Mathlib.Nat.{lt_of_not-le, not-suc-le-zero, le_of_suc-le-suc}
 use native.Mathlib.Numerals.{add-one}
 use native.Mathlib.Decide.{dec_le}
 use native.Mathlib.Omega.{arith}
-use mathlib.Core.Path.{◌≡◌, refl, sym, ap, ◌∙◌}
+use mathlib.Core.Path.{◌≡◌, refl, sym, ap, subst, ◌∙◌}
 use mathlib.Core.List.{List, [], ◌∷◌}
 use mathlib.Core.Bool.{Bool, true, false, true≢false}
 use lib.ListN.{length, get_or, drop, get_or-eq_default, drop_of_length-le}
-use lib.Dec.{eqb, leb}
 use lib.Seq.{drop-cons}
-use borrow.Author.Tests.{ne_eqb, le-leb, lt-leb}
-use Rattle.abnf.specs.Accepts.{in_range}
 use Rattle.json_text.specs.Bytes.{byte, run, past, is_ws, ws, Skipped}
 
 -- one order or the other
@@ -41,12 +38,6 @@ inside s at f = split (length s) at (λ h. absurd (f (byte_out s at h))) (λ h. 
 pub inside= : (s : List ℕ) (at k : ℕ) → byte s at ≡ k → k < 256 → at < length s
 inside= s at k e h = inside s at (λ q. omega arith)
 
-pub range_in : (lo hi b : ℕ) → lo ≤ b → leb b hi ≡ in_range lo hi b
-range_in lo hi b h = rw (le-leb lo b h)
-
-pub range_out : (lo hi b : ℕ) → b < lo → false ≡ in_range lo hi b
-range_out lo hi b h = rw (lt-leb lo b h)
-
 -- ---- a run goes on, or is over
 
 pub run_more : (p : ℕ → Bool) (s : List ℕ) (at : ℕ) → at < length s → p (byte s at) ≡ true → run p (drop at s) ≡ suc (run p (drop (suc at) s))
@@ -75,30 +66,31 @@ pub record Passing (p : ℕ → Bool) (s : List ℕ) (at i : ℕ) : Type 0 where
   pub to : i - length s ≤ at - length s
   pub same : past p s i ≡ past p s at
 
-pub passing : (p : ℕ → Bool) (s : List ℕ) (at : ℕ) → Passing p s at at
-passing p s at = record { from = omega arith; to = omega arith; same = refl }
-
 module _ {p : ℕ → Bool} {s : List ℕ} {at i : ℕ} (v : Passing p s at i) where
-  pub passing-more : i < length s → p (byte s i) ≡ true → Passing p s at (i + 1)
-  passing-more h e = record { from = omega arith; to = omega arith; same = past_more p s i h e ∙ v.same }
-
-  pub passing-end : p (byte s i) ≡ false → Skipped (past p s at) at (length s) i
+  passing-end : p (byte s i) ≡ false → Skipped (past p s at) at (length s) i
   passing-end e = record { is = sym (past_stop p s i e) ∙ v.same; from = v.from; to = v.to }
+
+  -- the test of the byte that stands there
+  module _ (h : i < length s) {b : ℕ} {t : Bool} (q : b ≡ get_or s i 0) (w : t ≡ p b) where
+    tested : p (byte s i) ≡ t
+    tested = ap p (sym (q ∙ byte_in s i h)) ∙ sym w
+
+    pub passing-more : t ≡ true → Passing p s at (i + 1)
+    passing-more e = record { from = omega arith; to = omega arith; same = past_more p s i h (tested ∙ e) ∙ v.same }
+
+    pub passing-stop : t ≡ false → Skipped (past p s at) at (length s) i
+    passing-stop e = passing-end (tested ∙ e)
+
+  -- no byte is left
+  pub passing-out : p 256 ≡ false → length s ≤ i → {r : ℕ} → r ≡ max at (length s) → Skipped (past p s at) at (length s) r
+  passing-out n h {r} e =
+      let a = v.from in
+      let b = v.to in
+      let z : i ≡ r = omega arith in
+      subst (λ (k : ℕ). Skipped (past p s at) at (length s) k) z (passing-end (ap p (byte_out s i h) ∙ n))
 
 -- ---- white space
 
 pub ws-stop : (s : List ℕ) (at : ℕ) → is_ws (byte s at) ≡ false → ws s at ≡ at
 unfolding ws
 ws-stop s at e = past_stop is_ws s at e
-
-pub ws-inside : (s : List ℕ) (at : ℕ) → is_ws (byte s at) ≡ true → at < length s
-unfolding is_ws
-ws-inside s at e = past-inside is_ws s at refl e
-
-pub ws-last : (b : ℕ) → (b ≡ 32 → ⊥) → (b ≡ 10 → ⊥) → (b ≡ 13 → ⊥) → eqb b 9 ≡ is_ws b
-unfolding is_ws
-ws-last b f g h = rw (ne_eqb b 32 f, ne_eqb b 10 g, ne_eqb b 13 h)
-
-pub ws_skipped : {s : List ℕ} {at i : ℕ} → Passing is_ws s at i → is_ws (byte s i) ≡ false → Skipped (ws s at) at (length s) i
-unfolding ws
-ws_skipped v e = passing-end v e

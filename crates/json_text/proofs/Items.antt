@@ -1,5 +1,6 @@
 -- One turn of a loop over items, said as the code's contracts say it.
-use Prim.Native.Nat.{ℕ, ◌+◌, ◌-◌, ◌≤◌, ◌<◌}
+use Rattle.std.specs.Prelude.{Err, Ok, Result}
+use Prim.Native.Nat.{ℕ, ◌+◌, ◌≤◌, ◌<◌}
 use native.Mathlib.Omega.{arith}
 use mathlib.Core.Path.{◌≡◌, sym, ap, ◌∙◌, subst}
 use mathlib.Core.List.{List}
@@ -7,23 +8,21 @@ use lib.ListN.{length}
 use borrow.Author.Tests.{eq-eqb}
 use Rattle.json_text.specs.Bytes.{byte, ws, Skipped, Scanned}
 use Rattle.json_text.specs.Value.{list_of, array_of, key_at, member_of, object_of, value_at, array_at, object_at}
-use Rattle.json_text.specs.declared.Scan.{Scan}
-use Rattle.json_text.specs.declared.Scan.TheVariants.{End, Bad}
 use Rattle.json_text.proofs.Bytes.{inside=}
 use Rattle.json_text.proofs.Scans.{carry}
 use Rattle.json_text.proofs.Values.{Going, list-none, going_start, going-bad, going_more, going-shut, going_wrong, member-bad, member_at_lem}
 
 -- the loops' invariant: the next item is at i, and the answer from there is the whole's
-pub record Inv (item : ℕ → Scan) (close : ℕ) (s : List ℕ) (at : ℕ) (want : Scan) (i : ℕ) : Type 0 where
+pub record Inv (item : ℕ → Result ℕ ℕ) (close : ℕ) (s : List ℕ) (at : ℕ) (want : Result ℕ ℕ) (i : ℕ) : Type 0 where
   pub past : at < i
   pub inside : i ≤ length s
   pub going : Going item close s i want
 
-module _ {item : ℕ → Scan} {close : ℕ} {s : List ℕ} {at i : ℕ} {want : Scan} (v : Inv item close s at want i) where
-  pub item-bad : {e : ℕ} → Scanned (item i) i (length s) (Bad e) → Scanned want at (length s) (Bad e)
+module _ {item : ℕ → Result ℕ ℕ} {close : ℕ} {s : List ℕ} {at i : ℕ} {want : Result ℕ ℕ} (v : Inv item close s at want i) where
+  pub item-bad : {e : ℕ} → Scanned (item i) i (length s) (Err e) → Scanned want at (length s) (Err e)
   item-bad {e} w = record { is = going-bad item close s i e v.inside v.going (sym w.is); lies = let l = w.lies in (omega arith, omega arith) }
 
-  module _ {e j : ℕ} (w : Scanned (item i) i (length s) (End e)) (p : Skipped (ws s e) e (length s) j) where
+  module _ {e j : ℕ} (w : Scanned (item i) i (length s) (Ok e)) (p : Skipped (ws s e) e (length s) j) where
     pub item-more : {k : ℕ} → byte s j ≡ 44 → Skipped (ws s (j + 1)) (j + 1) (length s) k → Inv item close s at want k
     item-more {k} b q =
         let l = w.lies in
@@ -39,41 +38,34 @@ module _ {item : ℕ → Scan} {close : ℕ} {s : List ℕ} {at i : ℕ} {want :
               (going_more item close s i e v.inside v.going (sym w.is) (ap (byte s) (sym p.is) ∙ b) (omega arith));
         }
 
-    pub item-shut : byte s j ≡ close → 44 < close → close < 256 → Scanned want at (length s) (End (j + 1))
+    pub item-shut : byte s j ≡ close → 44 < close → close < 256 → Scanned want at (length s) (Ok (j + 1))
     item-shut b d h =
         let l = w.lies in
         let x : j < length s = inside= s j close b h in
         record {
-          is = ap (λ (k : ℕ). End (k + 1)) p.is ∙ going-shut item close s i e v.inside v.going (sym w.is) (λ q. let z : 44 ≡ close = sym q ∙ ap (byte s) (sym p.is) ∙ b in omega arith) (ap (byte s) (sym p.is) ∙ b);
+          is = ap (λ (k : ℕ). Ok (k + 1)) p.is ∙ going-shut item close s i e v.inside v.going (sym w.is) (λ q. let z : 44 ≡ close = sym q ∙ ap (byte s) (sym p.is) ∙ b in omega arith) (ap (byte s) (sym p.is) ∙ b);
           lies = (omega arith, omega arith);
         }
 
-    pub item_wrong : (byte s j ≡ 44 → ⊥) → (byte s j ≡ close → ⊥) → Scanned want at (length s) (Bad j)
+    pub item_wrong : (byte s j ≡ 44 → ⊥) → (byte s j ≡ close → ⊥) → Scanned want at (length s) (Err j)
     item_wrong n b =
         let l = w.lies in
         record {
-          is = ap Bad p.is ∙ going_wrong item close s i e v.inside v.going (sym w.is) (λ q. n (ap (byte s) p.is ∙ q)) (λ q. b (ap (byte s) p.is ∙ q));
+          is = ap Err p.is ∙ going_wrong item close s i e v.inside v.going (sym w.is) (λ q. n (ap (byte s) p.is ∙ q)) (λ q. b (ap (byte s) p.is ∙ q));
           lies = (omega arith, omega arith);
         }
 
-    -- the turn comes nearer to the end
-    pub item-less : {k : ℕ} → Skipped (ws s (j + 1)) (j + 1) (length s) k → length s - k < length s - i
-    item-less {k} q = less w.lies.0 w.lies.1 p.from q.from
-      where
-        less : {n a b c d : ℕ} → a < b → b ≤ n → b ≤ c → c + 1 ≤ d → n - d < n - a
-        less g h l m = omega arith
-
 -- a member is a key and a value
-module _ (v : ℕ → Scan) (s : List ℕ) (i k : ℕ) where
-  pub member_stops : Scanned (key_at s i) i (length s) (Bad k) → Scanned (member_of v s i) i (length s) (Bad k)
+module _ (v : ℕ → Result ℕ ℕ) (s : List ℕ) (i k : ℕ) where
+  pub member_stops : Scanned (key_at s i) i (length s) (Err k) → Scanned (member_of v s i) i (length s) (Err k)
   member_stops w = record { is = sym (member-bad s v i k (sym w.is)); lies = w.lies }
 
-  pub member-goes : {r : Scan} → Scanned (key_at s i) i (length s) (End k) → Scanned (v k) k (length s) r → Scanned (member_of v s i) i (length s) r
+  pub member-goes : {r : Result ℕ ℕ} → Scanned (key_at s i) i (length s) (Ok k) → Scanned (v k) k (length s) r → Scanned (member_of v s i) i (length s) r
   member-goes w u = let l = w.lies in carry (sym (member_at_lem s v i k (sym w.is))) (omega arith) (omega arith) u
 
 -- the first item, or none
-module _ (item : ℕ → Scan) (close : ℕ) (s : List ℕ) (at i : ℕ) (h : at < length s) (p : Skipped (ws s (at + 1)) (at + 1) (length s) i) where
-  first-none : byte s i ≡ close → close < 256 → Scanned (list_of item close s (ws s (at + 1))) at (length s) (End (i + 1))
+module _ (item : ℕ → Result ℕ ℕ) (close : ℕ) (s : List ℕ) (at i : ℕ) (h : at < length s) (p : Skipped (ws s (at + 1)) (at + 1) (length s) i) where
+  first-none : byte s i ≡ close → close < 256 → Scanned (list_of item close s (ws s (at + 1))) at (length s) (Ok (i + 1))
   first-none b k =
       let x : i < length s = inside= s i close b k in
       record {
@@ -90,7 +82,7 @@ module _ (item : ℕ → Scan) (close : ℕ) (s : List ℕ) (at i : ℕ) (h : at
       }
 
 module _ (d : ℕ) (s : List ℕ) (at i : ℕ) (h : at < length s) (p : Skipped (ws s (at + 1)) (at + 1) (length s) i) where
-  pub array-none : byte s i ≡ 93 → Scanned (array_at d s at) at (length s) (End (i + 1))
+  pub array-none : byte s i ≡ 93 → Scanned (array_at d s at) at (length s) (Ok (i + 1))
   unfolding array_at array_of
   array-none b = first-none (λ j. value_at d s j) 93 s at i h p b (omega arith)
 
@@ -98,7 +90,7 @@ module _ (d : ℕ) (s : List ℕ) (at i : ℕ) (h : at < length s) (p : Skipped 
   unfolding array_at array_of
   array-some f = first_some (λ j. value_at d s j) 93 s at i h p f
 
-  pub object-none : byte s i ≡ 125 → Scanned (object_at d s at) at (length s) (End (i + 1))
+  pub object-none : byte s i ≡ 125 → Scanned (object_at d s at) at (length s) (Ok (i + 1))
   unfolding object_at object_of
   object-none b = first-none (λ j. member_of (λ k. value_at d s k) s j) 125 s at i h p b (omega arith)
 

@@ -1,4 +1,5 @@
 -- A step through members or elements, and the laws of every walk through them.
+use Rattle.std.specs.Prelude.{Option, None}
 use Prim.Native.Nat.{ℕ, zero, suc, ◌+◌, ◌≤◌, ◌<◌}
 use native.Mathlib.Nat.{add-zero}
 use native.Mathlib.Omega.{arith}
@@ -7,9 +8,8 @@ use mathlib.Core.List.{List, [], ◌∷◌}
 use lib.ListN.{length}
 use borrow.Author.Tests.{ne_eqb, eq-eqb}
 use Rattle.json_text.specs.Bytes.{byte, ws, Skipped}
-use Rattle.json_text.specs.Members.{Member, next_at, member_at, element_at, list_from, members_at, elements_at}
+use Rattle.json_text.specs.Members.{Member, next_at, member_at, element_at, list_from, members_at, elements_at, found}
 use Rattle.json_text.specs.declared.Item.{Item}
-use Rattle.json_text.specs.declared.Item.TheVariants.{At, Done}
 use Rattle.json_text.proofs.Bytes.{inside=}
 
 -- ---- one step
@@ -36,12 +36,12 @@ module _ (s : List ℕ) (e j : ℕ) (p : Skipped (ws s e) e (length s) j) {b : �
   next-none f = record { is = p.is ∙ sym (rw (ne_eqb (byte s (ws s e)) 44 (λ q. f (x ∙ ap (byte s) p.is ∙ q)), next_at)); from = p.from; to = p.to }
 
 -- ---- walks. f of all the items is f of those from i on, with what f has kept of those before; n is the text's length
-pub record Going {X : Type 0} (step : ℕ → Item) (f : List Member → X) (n i : ℕ) (want : X) : Type 0 where
+pub record Going {X : Type 0} (step : ℕ → Option Item) (f : List Member → X) (n i : ℕ) (want : X) : Type 0 where
   pub fuel : ℕ
   pub enough : n < i + fuel
   pub same : f (list_from step fuel i) ≡ want
 
-module _ {X : Type 0} (step : ℕ → Item) (f : List Member → X) (n i : ℕ) {want : X} (h : i ≤ n) (g : Going step f n i want) where
+module _ {X : Type 0} (step : ℕ → Option Item) (f : List Member → X) (n i : ℕ) {want : X} (h : i ≤ n) (g : Going step f n i want) where
   turn : (k : ℕ) × (f (list_from step (suc k) i) ≡ want) × (n ≤ i + k)
   turn = go g.fuel g.enough g.same
     where
@@ -50,17 +50,17 @@ module _ {X : Type 0} (step : ℕ → Item) (f : List Member → X) (n i : ℕ) 
       go (suc k) e q = (k, q, omega arith)
 
   -- nothing is left
-  pub walked : step i ≡ Done → f [] ≡ want
+  pub walked : step i ≡ None → f [] ≡ want
   unfolding list_from
   walked q = let t = turn in ap f (sym (rw (q, list_from))) ∙ t.1
 
   -- the next turn: f with this item put in front
-  pub walk : {k e j : ℕ} → step i ≡ At k e j → i < j → Going step (λ ms. f (record { name = i; value = k; end = e } ∷ ms)) n j want
+  pub walk : {k e j : ℕ} → step i ≡ found k e j → i < j → Going step (λ ms. f (record { name = i; value = k; end = e } ∷ ms)) n j want
   unfolding list_from
   walk {k} {e} {j} q l = let t = turn in record { fuel = t.0; enough = omega (arith, t.2); same = ap f (sym (rw (q, list_from))) ∙ t.1 }
 
 module _ {X : Type 0} (f : List Member → X) (s : List ℕ) (at i : ℕ) (q : i ≡ ws s (at + 1)) where
-  start : (step : ℕ → Item) → Going step f (length s) i (f (list_from step (suc (length s)) (ws s (at + 1))))
+  start : (step : ℕ → Option Item) → Going step f (length s) i (f (list_from step (suc (length s)) (ws s (at + 1))))
   start step = record { fuel = suc (length s); enough = omega arith; same = ap (λ (k : ℕ). f (list_from step (suc (length s)) k)) q }
 
   pub walk-members : Going (member_at s) f (length s) i (f (members_at s at))

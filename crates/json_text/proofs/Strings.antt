@@ -1,4 +1,6 @@
 -- Laws of strings.
+use Rattle.std.specs.Prelude.{Err, Ok, Result}
+use Rattle.std.specs.List.{list_any}
 use Prim.Native.Nat.{ℕ, zero, suc, ◌+◌, ◌-◌, ◌≤◌, ◌<◌}
 use native.Mathlib.Numerals.{add-one}
 use native.Mathlib.Omega.{arith}
@@ -6,26 +8,20 @@ use mathlib.Core.Path.{◌≡◌, refl, sym, ap, subst, ◌∙◌}
 use mathlib.Core.List.{List, [], ◌∷◌}
 use mathlib.Core.Logic.{◌⊎◌, inl, inr}
 use mathlib.Core.Bool.{Bool, true, false, not, ◌&&◌, true≢false}
-use lib.ListN.{length, get_or, take, drop, drop_of_length-le}
+use lib.ListN.{length, get_or, take, drop, length-drop, drop_of_length-le}
 use lib.Dec.{eqb, leb}
-use lib.Seq.{drop-cons, get_or-drop}
+use lib.Seq.{drop-cons, get_or-drop, get_or-take, length-take-le}
 use borrow.Author.Tests.{ne_eqb, eq-eqb, le-leb, leb-true, eqb-false, not-true}
 use Rattle.abnf.specs.Accepts.{in_range}
 use Rattle.abnf.proofs.Steps.{in_range_lem}
 use Rattle.json_text.specs.Bytes.{byte, Scanned}
 use Rattle.json_text.specs.Strings.{is_hex, is_escape, plain_step, escape_step, hex_step, text_step, text, string_at, raw_bytes, is_plain}
-use Rattle.json_text.specs.Parts.{stands_for_itself, Run, RunOver, Escaped}
-use Rattle.json_text.specs.declared.Scan.{Scan}
-use Rattle.json_text.specs.declared.Scan.TheVariants.{End, Bad}
+use Rattle.json_text.specs.Parts.{stands_for_itself, EachPlain, Run, RunOver, Escaped}
 use Rattle.json_text.specs.declared.string.State.{State}
 use Rattle.json_text.specs.declared.string.State.TheVariants.{Plain, Escape, Hex4, Hex3, Hex2, Hex1}
 use Rattle.json_text.specs.declared.string.Move.{Move}
 use Rattle.json_text.specs.declared.string.Move.TheVariants.{Go, Shut, Stuck}
 use Rattle.json_text.proofs.Bytes.{split, both, byte_in, byte_out, inside=}
-
-pub escape-not : (b : ℕ) → (b ≡ 34 → ⊥) → (b ≡ 47 → ⊥) → (b ≡ 92 → ⊥) → (b ≡ 98 → ⊥) → (b ≡ 102 → ⊥) → (b ≡ 110 → ⊥) → (b ≡ 114 → ⊥) → (b ≡ 116 → ⊥) → false ≡ is_escape b
-unfolding is_escape
-escape-not b f1 f2 f3 f4 f5 f6 f7 f8 = rw (ne_eqb b 34 f1, ne_eqb b 47 f2, ne_eqb b 92 f3, ne_eqb b 98 f4, ne_eqb b 102 f5, ne_eqb b 110 f6, ne_eqb b 114 f7, ne_eqb b 116 f8)
 
 pub escape-plain : (b : ℕ) → (b ≡ 117 → ⊥) → is_escape b ≡ true → Go Plain ≡ escape_step b
 unfolding escape_step
@@ -51,18 +47,6 @@ pub hex_stuck : (t : State) (b : ℕ) → is_hex b ≡ false → Stuck ≡ hex_s
 unfolding hex_step
 hex_stuck t b e = rw (e, hex_step)
 
-pub hex_1 : (b : ℕ) → in_range 48 57 b ≡ true → true ≡ is_hex b
-unfolding is_hex
-hex_1 b e = rw e
-
-pub hex_2 : (b : ℕ) → in_range 48 57 b ≡ false → in_range 65 70 b ≡ true → true ≡ is_hex b
-unfolding is_hex
-hex_2 b e f = rw (e, f)
-
-pub hex_3 : (b : ℕ) → in_range 48 57 b ≡ false → in_range 65 70 b ≡ false → in_range 97 102 b ≡ is_hex b
-unfolding is_hex
-hex_3 b e f = rw (e, f)
-
 -- past the end every state is stuck
 pub past : (t : State) → text_step t 256 ≡ Stuck
 unfolding text_step plain_step escape_step hex_step is_hex is_escape
@@ -87,11 +71,11 @@ pub text_go : (t u : State) (s : List ℕ) (at : ℕ) → text_step t (byte s at
 unfolding text byte
 text_go t u s at e = rw (drop-cons s at 256 (go-inside t u s at e)) (rw (e, text) (rw (add-one at)))
 
-pub text-shut : (t : State) (s : List ℕ) (at : ℕ) → text_step t (byte s at) ≡ Shut → text t (drop at s) at ≡ End (at + 1)
+pub text-shut : (t : State) (s : List ℕ) (at : ℕ) → text_step t (byte s at) ≡ Shut → text t (drop at s) at ≡ Ok (at + 1)
 unfolding text byte
 text-shut t s at e = rw (drop-cons s at 256 (shut-inside t s at e)) (rw (e, text))
 
-pub text_stuck : (t : State) (s : List ℕ) (at : ℕ) → text_step t (byte s at) ≡ Stuck → text t (drop at s) at ≡ Bad at
+pub text_stuck : (t : State) (s : List ℕ) (at : ℕ) → text_step t (byte s at) ≡ Stuck → text t (drop at s) at ≡ Err at
 unfolding text byte
 text_stuck t s at e = split (length s) at (λ h. rw (drop_of_length-le s h)) (λ h. rw (drop-cons s at 256 h) (rw (e, text)))
 
@@ -168,15 +152,23 @@ pub run-one : (s : List ℕ) (i j b : ℕ) → i + 1 ≡ j → i < length s → 
 unfolding text_step
 run-one s i j b q h p e = run_to q (record { from = omega arith; to = omega arith; plain = λ k a l y. let z : k ≡ i = omega arith in plain-none b e (p ∙ byte_in s i h ∙ sym (ap (byte s) z) ∙ y); same = sym (text_go Plain Plain s i (ap plain_step (sym (p ∙ byte_in s i h)) ∙ e)) })
 
--- two tests, of one part and of the next
-pub run-both : {s : List ℕ} {i j k : ℕ} (a b : Bool) → (a ≡ true → Run s i j) → (b ≡ true → Run s j k) → a && b ≡ true → Run s i k
-run-both a b f g e = run_then (f (and_left a b e)) (g (and_right a b e))
+-- ---- a block of them
+
+run-first : (s : List ℕ) (i n : ℕ) → i + n ≤ length s → ((k : ℕ) → k < n → plain_step (get_or s (i + k) 0) ≡ Go Plain) → Run s i (i + n)
+run-first s i zero h f = run_to (omega arith) (run_none s i (omega arith))
+run-first s i (suc n) h f = run_then (run-first s i n (omega arith) (λ k l. f k (omega arith))) (run-one s (i + n) (i + suc n) _ (omega arith) (omega arith) refl (f n (omega arith)))
+
+pub run-block : (s : List ℕ) (i n : ℕ) → n ≡ 8 → i + 8 ≤ length s → EachPlain (take n (drop i s)) (length (take n (drop i s))) → Run s i (i + 8)
+run-block s i n q h v =
+    let d = length-drop i s in
+    let l = length-take-le n (drop i s) (omega arith) in
+    run-first s i 8 h (λ k m. ap plain_step (sym (get_or-drop i s k 0) ∙ sym (get_or-take n (drop i s) k 0 (omega arith))) ∙ v.each k (omega arith))
 
 pub run-over : {s : List ℕ} {at i b : ℕ} → Run s at i → i < length s → b ≡ get_or s i 0 → stands_for_itself b ≡ false → RunOver s at i
 run-over {s} {at} {i} v h p e = record { run = v; over = ap stands_for_itself (sym (p ∙ byte_in s i h)) ∙ e }
 
-pub run_end : {s : List ℕ} {at i : ℕ} → Run s at i → length s ≤ i → RunOver s at i
-run_end {s} {at} {i} v h = record { run = v; over = over-end s i h }
+pub run_end : {s : List ℕ} {at i : ℕ} → Run s at i → length s ≤ i → RunOver s at (length s)
+run_end {s} {at} {i} v h = record { run = run_to (omega (arith, v.to)) v; over = over-end s (length s) (omega arith) }
 
 -- ---- escapes
 
@@ -210,38 +202,31 @@ pub record Escaping (s : List ℕ) (at : ℕ) (t : State) (i : ℕ) : Type 0 whe
   pub within : t ≡ Plain → ⊥
   pub same : text t (drop i s) i ≡ text Escape (drop at s) at
 
-pub escaping : (s : List ℕ) (at : ℕ) → at ≤ length s → Escaping s at Escape at
-escaping s at h = record { from = omega arith; to = h; within = λ q. let z : ◌≡◌ {A = ℕ} 0 1 = cc in absurd (omega arith); same = refl }
+module _ {s : List ℕ} {at : ℕ} {t : State} {i : ℕ} (v : Escaping s at t i) where
+  -- no byte is left
+  pub escape-out : length s ≤ i → Escaped s at (Err (length s))
+  unfolding text
+  escape-out h =
+      let e : i ≡ length s = omega (arith, v.to) in
+      record { ends = (omega (arith, v.from), omega arith, ap Err (sym e) ∙ sym (ap (λ (l : List ℕ). text t l i) (drop_of_length-le s h)) ∙ v.same) }
 
-module _ {s : List ℕ} {at : ℕ} {t : State} {i : ℕ} (v : Escaping s at t i) {b : ℕ} (p : b ≡ byte s i) {m : Move} (q : m ≡ text_step t b) where
+module _ {s : List ℕ} {at : ℕ} {t : State} {i : ℕ} (v : Escaping s at t i) (h : i < length s) {b : ℕ} (p : b ≡ get_or s i 0) {m : Move} (q : m ≡ text_step t b) where
   now-step : {n : Move} → m ≡ n → text_step t (byte s i) ≡ n
-  now-step e = ap (text_step t) (sym p) ∙ sym q ∙ e
+  now-step e = ap (text_step t) (sym (p ∙ byte_in s i h)) ∙ sym q ∙ e
 
-  pub escape-inside : {u : State} → m ≡ Go u → i < length s
-  escape-inside {u} e = go-inside t u s i (now-step e)
-
-  pub escape-over : {u : State} → m ≡ Go u → u ≡ Plain → Escaped s at (End (i + 1))
-  escape-over {u} e x = let h = escape-inside e in record { ends = (omega (arith, v.from), omega arith, sym (text_go t Plain s i (now-step e ∙ ap Go x)) ∙ v.same) }
+  pub escape-over : {u : State} → m ≡ Go u → u ≡ Plain → Escaped s at (Ok (i + 1))
+  escape-over {u} e x = record { ends = (omega (arith, v.from), omega arith, sym (text_go t Plain s i (now-step e ∙ ap Go x)) ∙ v.same) }
 
   pub escape_on : {u : State} → m ≡ Go u → (u ≡ Plain → ⊥) → Escaping s at u (i + 1)
-  escape_on {u} e f = let h = escape-inside e in record { from = omega (arith, v.from); to = omega arith; within = f; same = sym (text_go t u s i (now-step e)) ∙ v.same }
+  escape_on {u} e f = record { from = omega (arith, v.from); to = omega arith; within = f; same = sym (text_go t u s i (now-step e)) ∙ v.same }
 
-  pub escape_stops : m ≡ Stuck → Escaped s at (Bad i)
+  escape_stops : m ≡ Stuck → Escaped s at (Err i)
   escape_stops e = record { ends = (v.from, v.to, sym (text_stuck t s i (now-step e)) ∙ v.same) }
 
-  pub escape-never : {A : Type 0} → m ≡ Shut → A
-  escape-never e = absurd (v.within (shut-plain t b (sym q ∙ e)))
-
--- whether a state is plain
-pub is-plain : {t : State} → t ≡ Plain → (◌≡◌ {A = Bool} true true → t ≡ Plain) × (◌≡◌ {A = Bool} true false → t ≡ Plain → ⊥)
-is-plain e = (λ _. e, λ q. absurd (true≢false q))
-
-pub is-other : {t : State} (u : State) → t ≡ u → (u ≡ Plain → ⊥) → (◌≡◌ {A = Bool} false true → t ≡ Plain) × (◌≡◌ {A = Bool} false false → t ≡ Plain → ⊥)
-is-other u e f = (λ q. absurd (true≢false (sym q)), λ _ p. f (sym e ∙ p))
-
--- of the variant that a match found
-pub escaped : {s : List ℕ} {at : ℕ} {r : Scan} (q : Scan) → Escaped s at r → r ≡ q → Escaped s at q
-escaped {s} {at} q w e = subst (Escaped s at) e w
+  -- no escape is shut
+  pub escape_halts : (m ≡ Shut) ⊎ (m ≡ Stuck) → Escaped s at (Err i)
+  escape_halts (inl e) = absurd (v.within (shut-plain t b (sym q ∙ e)))
+  escape_halts (inr e) = escape_stops e
 
 -- ---- whether bytes have a backslash among them
 
@@ -251,41 +236,36 @@ none-plain l zero f = refl
 none-plain [] (suc n) f = refl
 none-plain (b ∷ l) (suc n) f = rw (ne_eqb b 92 (f 0 (omega arith)), is_plain) (none-plain l n (λ i h. f (suc i) (omega arith)))
 
-one_plain : (l : List ℕ) (n i : ℕ) → i < n → get_or l i 256 ≡ 92 → is_plain (take n l) ≡ false
-unfolding is_plain
-one_plain l zero i h e = absurd (omega arith)
-one_plain [] (suc n) i h e = absurd (omega arith)
-one_plain (b ∷ l) (suc n) zero h e = rw (eq-eqb b 92 e, is_plain)
-one_plain (b ∷ l) (suc n) (suc i) h e = both (eqb b 92) (λ q. rw (q, is_plain)) (λ q. rw (q, is_plain) (one_plain l n i (omega arith) e))
-
--- bytes none of which is a backslash, or one of which is
+-- bytes none of which is a backslash
 pub plain-between : (s : List ℕ) (a n : ℕ) → ((k : ℕ) → a ≤ k → k < a + n → byte s k ≡ 92 → ⊥) → is_plain (take n (drop a s)) ≡ true
 unfolding byte
 plain-between s a n f = none-plain (drop a s) n (λ i h e. f (a + i) (omega arith) (omega arith) (sym (get_or-drop a s i 256) ∙ e))
 
-pub not-plain-between : (s : List ℕ) (a n k : ℕ) → a ≤ k → k < a + n → byte s k ≡ 92 → is_plain (take n (drop a s)) ≡ false
-unfolding byte
-not-plain-between s a n k h l e = let q : a + (k - a) ≡ k = omega arith in one_plain (drop a s) n (k - a) (omega arith) (get_or-drop a s (k - a) 256 ∙ ap (λ (i : ℕ). get_or s i 256) q ∙ e)
+-- as the library tests it
+pub contains-backslash : (s : List ℕ) → not (list_any (λ b. eqb b 92) s) ≡ is_plain s
+unfolding is_plain
+contains-backslash [] = refl
+contains-backslash (b ∷ s) = both (eqb b 92) (λ q. rw (q, is_plain)) (λ q. rw (q, is_plain) (contains-backslash s))
 
--- a loop over them has come to i
-pub record Without (s : List ℕ) (at i : ℕ) : Type 0 where
-  pub from : at ≤ i
-  pub none : (k : ℕ) → at ≤ k → k < i → byte s k ≡ 92 → ⊥
+-- ---- the string at `at` has two quotes
 
-pub without : (s : List ℕ) (at : ℕ) → Without s at at
-without s at = record { from = omega arith; none = λ k a l. absurd (omega arith) }
+module _ (b : ℕ) (bs : List ℕ) (at e : ℕ) (later : (u : State) → text u bs (at + 1) ≡ Ok e → at + 1 < e) where
+  text-step-past : (t : State) (m : Move) → text_step t b ≡ m → text t (b ∷ bs) at ≡ Ok e → at < e
+  unfolding text
+  text-step-past t (Go u) q p = let h = later u (sym (rw (q, text)) ∙ p) in omega arith
+  text-step-past t Shut q p = let h : ◌≡◌ {A = Result ℕ ℕ} (Ok (at + 1)) (Ok e) = sym (rw (q, text)) ∙ p in let z : at + 1 ≡ e = cc in omega arith
+  text-step-past t Stuck q p = let h : ◌≡◌ {A = Result ℕ ℕ} (Err at) (Ok e) = sym (rw (q, text)) ∙ p in let z : ◌≡◌ {A = ℕ} 0 1 = cc in absurd (omega arith)
 
-module _ {s : List ℕ} {at i : ℕ} (v : Without s at i) where
-  pub without_more : i < length s → (get_or s i 0 ≡ 92 → ⊥) → Without s at (i + 1)
-  without_more h f =
-      let g = v.from in
-      record { from = omega arith; none = λ k a l y. split i k (λ x. let z : k ≡ i = omega arith in f (byte_in s i h ∙ sym (ap (byte s) z) ∙ y)) (λ x. v.none k a x y) }
+text-past : (t : State) (l : List ℕ) (at e : ℕ) → text t l at ≡ Ok e → at < e
+unfolding text
+text-past t [] at e p = let h : ◌≡◌ {A = Result ℕ ℕ} (Err at) (Ok e) = p in let z : ◌≡◌ {A = ℕ} 0 1 = cc in absurd (omega arith)
+text-past t (b ∷ l) at e p = text-step-past b l at e (λ u q. text-past u l (at + 1) e q) t (text_step t b) refl p
 
-  pub without_end : {to : ℕ} → to ≤ i → true ≡ is_plain (take (to - at) (drop at s))
-  without_end {to} h = let g = v.from in sym (plain-between s at (to - at) (λ k a l. v.none k a (omega arith)))
-
-  pub without_not : {to : ℕ} → i < to → to ≤ length s → get_or s i 0 ≡ 92 → false ≡ is_plain (take (to - at) (drop at s))
-  without_not {to} h m e = let g = v.from in sym (not-plain-between s at (to - at) i g (omega arith) (sym (byte_in s i (omega arith)) ∙ e))
+pub two-quotes : (s : List ℕ) (at e : ℕ) → string_at s at ≡ Ok e → at + 1 < e
+unfolding string_at
+two-quotes s at e p = both (eqb (byte s at) 34)
+    (λ q. text-past Plain (drop (at + 1) s) (at + 1) e (sym (rw (q, string_at)) ∙ p))
+    (λ q. let h : ◌≡◌ {A = Result ℕ ℕ} (Err at) (Ok e) = sym (rw (q, string_at)) ∙ p in let z : ◌≡◌ {A = ℕ} 0 1 = cc in absurd (omega arith))
 
 -- ---- the loop over the runs of a string that begins at `at` has come to i
 pub record Reading (s : List ℕ) (at i : ℕ) : Type 0 where
@@ -295,25 +275,25 @@ pub record Reading (s : List ℕ) (at i : ℕ) : Type 0 where
 
 -- ---- the bytes between its quotes
 
-raw-end : (s : List ℕ) (at : ℕ) {e : ℕ} → string_at s at ≡ End e → raw_bytes s at ≡ take ((e - 1) - (at + 1)) (drop (at + 1) s)
+raw-end : (s : List ℕ) (at : ℕ) {e : ℕ} → string_at s at ≡ Ok e → raw_bytes s at ≡ take ((e - 1) - (at + 1)) (drop (at + 1) s)
 unfolding raw_bytes
 raw-end s at q = rw (q, raw_bytes)
 
-raw-bad : (s : List ℕ) (at : ℕ) {e : ℕ} → string_at s at ≡ Bad e → is_plain (raw_bytes s at) ≡ true
+raw-bad : (s : List ℕ) (at : ℕ) {e : ℕ} → string_at s at ≡ Err e → is_plain (raw_bytes s at) ≡ true
 unfolding raw_bytes is_plain
 raw-bad s at q = rw (q, raw_bytes)
 
-module _ (s : List ℕ) (at : ℕ) {e : ℕ} {r : Scan} (w : Scanned (string_at s at) at (length s) r) where
-  pub raw-none : r ≡ Bad e → true ≡ is_plain (raw_bytes s at)
+module _ (s : List ℕ) (at : ℕ) {e : ℕ} {r : Result ℕ ℕ} (w : Scanned (string_at s at) at (length s) r) where
+  pub raw-none : r ≡ Err e → true ≡ is_plain (raw_bytes s at)
   raw-none q = sym (raw-bad s at (sym w.is ∙ q))
 
-  pub raw-some : {b : Bool} → r ≡ End e → b ≡ is_plain (take ((e - 1) - (at + 1)) (drop (at + 1) s)) → b ≡ is_plain (raw_bytes s at)
+  pub raw-some : {b : Bool} → r ≡ Ok e → b ≡ is_plain (take ((e - 1) - (at + 1)) (drop (at + 1) s)) → b ≡ is_plain (raw_bytes s at)
   raw-some q p = p ∙ sym (ap is_plain (raw-end s at (sym w.is ∙ q)))
 
 -- ---- a turn of the loop
 
 module _ (s : List ℕ) (at : ℕ) {b : ℕ} (p : b ≡ byte s at) where
-  pub string-not : (b ≡ 34 → ⊥) → Scanned (string_at s at) at (length s) (Bad at)
+  pub string-not : (b ≡ 34 → ⊥) → Scanned (string_at s at) at (length s) (Err at)
   unfolding string_at
   string-not f = record { is = rw (ne_eqb (byte s at) 34 (λ q. f (p ∙ q)), string_at); lies = (omega arith, omega arith) }
 
@@ -328,7 +308,7 @@ module _ {s : List ℕ} {at i j : ℕ} (v : Reading s at i) (o : RunOver s i j) 
   pub special-inside : (k : ℕ) → b ≡ k → k < 256 → j < length s
   special-inside k e h = inside= s j k (sym p ∙ e) h
 
-  pub string-shut : b ≡ 34 → Scanned (string_at s at) at (length s) (End (j + 1))
+  pub string-shut : b ≡ 34 → Scanned (string_at s at) at (length s) (Ok (j + 1))
   unfolding text_step plain_step
   string-shut e =
       let h = special-inside 34 e (omega arith) in
@@ -339,7 +319,7 @@ module _ {s : List ℕ} {at i j : ℕ} (v : Reading s at i) (o : RunOver s i j) 
   pub string-plain : i ≡ at + 1 → b ≡ 34 → is_plain (raw_bytes s at) ≡ true
   string-plain z e = sym (raw-some s at (string-shut e) refl (sym (plain-between s (at + 1) ((j + 1 - 1) - (at + 1)) (λ k a l. o.run.plain k (omega arith) (omega arith)))))
 
-  pub string_stuck : (b ≡ 34 → ⊥) → (b ≡ 92 → ⊥) → Scanned (string_at s at) at (length s) (Bad j)
+  pub string_stuck : (b ≡ 34 → ⊥) → (b ≡ 92 → ⊥) → Scanned (string_at s at) at (length s) (Err j)
   unfolding text_step
   string_stuck f g =
       let h = o.run.from in
@@ -351,23 +331,15 @@ module _ {s : List ℕ} {at i j : ℕ} (v : Reading s at i) (o : RunOver s i j) 
     unfolding text_step plain_step
     backslash = text_go Plain Escape s j (rw (sym p ∙ e))
 
-    pub string-bad : {k : ℕ} → Escaped s (j + 1) (Bad k) → Scanned (string_at s at) at (length s) (Bad k)
+    pub string-bad : {k : ℕ} → Escaped s (j + 1) (Err k) → Scanned (string_at s at) at (length s) (Err k)
     string-bad x =
         let h = o.run.from in
         let l = x.ends.0 in
         let m = x.ends.1 in
         record { is = x.ends.2 ∙ sym backslash ∙ o.run.same ∙ v.same; lies = (omega arith, omega arith) }
 
-    pub string_on : {k : ℕ} → Escaped s (j + 1) (End k) → Reading s at k
+    pub string_on : {k : ℕ} → Escaped s (j + 1) (Ok k) → Reading s at k
     string_on x =
         let h = o.run.from in
         let l = x.ends.0 in
         record { past = omega arith; to = x.ends.1; same = x.ends.2 ∙ sym backslash ∙ o.run.same ∙ v.same }
-
-    -- the turn comes nearer to the end
-    pub string-less : {k : ℕ} → Escaped s (j + 1) (End k) → length s - k < length s - i
-    string-less x =
-        let h = o.run.from in
-        let l = x.ends.0 in
-        let m = x.ends.1 in
-        omega arith

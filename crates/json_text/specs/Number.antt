@@ -1,9 +1,7 @@
 -- JSON's numbers (RFC 8259, 6): [ minus ] int [ frac ] [ exp ].
-use Rattle.std.specs.Prelude.{ℕ, ◌+◌, List, Bool, true, false, ◌||◌, eqb}
+use Rattle.std.specs.Prelude.{ℕ, ◌+◌, List, Bool, true, false, ◌||◌, eqb, Err, Ok, Result}
 use Rattle.abnf.specs.Accepts.{in_range}
 use Rattle.json_text.specs.Bytes.{byte, past, and_then}
-use Rattle.json_text.specs.declared.Scan.{Scan}
-use Rattle.json_text.specs.declared.Scan.TheVariants.{End, Bad}
 
 unfoldable pub is_digit : ℕ → Bool
 is_digit b = in_range 48 57 b
@@ -23,23 +21,23 @@ unfoldable pub is_sign : ℕ → Bool
 is_sign b = eqb b 43 || eqb b 45
 
 -- 1*DIGIT
-unfoldable pub some_digits : List ℕ → ℕ → Scan
-some_digits s at = elim (is_digit (byte s at)) [ true ↦ End (digits_end s (at + 1)) | false ↦ Bad at ]
+unfoldable pub some_digits : List ℕ → ℕ → Result ℕ ℕ
+some_digits s at = elim (is_digit (byte s at)) [ true ↦ Ok (digits_end s (at + 1)) | false ↦ Err at ]
 
 -- int = zero / ( digit1-9 *DIGIT )
-unfoldable pub int_at : List ℕ → ℕ → Scan
-int_at s at = elim (eqb (byte s at) 48) [ true ↦ End (at + 1) | false ↦ some_digits s at ]
+unfoldable pub int_at : List ℕ → ℕ → Result ℕ ℕ
+int_at s at = elim (eqb (byte s at) 48) [ true ↦ Ok (at + 1) | false ↦ some_digits s at ]
 
 -- [ frac ], frac = decimal-point 1*DIGIT
-unfoldable pub frac_at : List ℕ → ℕ → Scan
-frac_at s at = elim (eqb (byte s at) 46) [ true ↦ some_digits s (at + 1) | false ↦ End at ]
+unfoldable pub frac_at : List ℕ → ℕ → Result ℕ ℕ
+frac_at s at = elim (eqb (byte s at) 46) [ true ↦ some_digits s (at + 1) | false ↦ Ok at ]
 
 unfoldable pub is_exp : ℕ → Bool
 is_exp b = eqb b 69 || eqb b 101
 
 -- [ exp ], exp = e [ minus / plus ] 1*DIGIT
-unfoldable pub exp_at : List ℕ → ℕ → Scan
-exp_at s at = elim (is_exp (byte s at)) [ true ↦ some_digits s (optional is_sign s (at + 1)) | false ↦ End at ]
+unfoldable pub exp_at : List ℕ → ℕ → Result ℕ ℕ
+exp_at s at = elim (is_exp (byte s at)) [ true ↦ some_digits s (optional is_sign s (at + 1)) | false ↦ Ok at ]
 
-unfoldable pub number_at : List ℕ → ℕ → Scan
+unfoldable pub number_at : List ℕ → ℕ → Result ℕ ℕ
 number_at s at = and_then (int_at s (optional is_minus s at)) (λ i. and_then (frac_at s i) (λ j. exp_at s j))

@@ -1,13 +1,12 @@
 -- What only private functions' contracts cite: the table of ends as it fills, an entry of it, and runs of bytes in strings.
-use Rattle.std.specs.Prelude.{ℕ, suc, ◌≤◌, ◌<◌, ◌≡◌, List, ◌⊎◌, Bool, false, not, ◌&&◌, length, get_or, drop, eqb}
+use Rattle.std.specs.Prelude.{ℕ, suc, ◌≤◌, ◌<◌, ◌≡◌, List, ◌⊎◌, Bool, false, not, ◌&&◌, length, get_or, drop, eqb, Err, Ok, Result, Option, Some}
 use Rattle.abnf.specs.Accepts.{in_range}
 use Rattle.json_text.specs.Bytes.{byte, Scanned}
-use Rattle.json_text.specs.Strings.{text}
+use Rattle.json_text.specs.Strings.{plain_step, text}
 use Rattle.json_text.specs.Value.{value_at}
 use Rattle.json_text.specs.Ends.{Ends}
-use Rattle.json_text.specs.declared.Scan.{Scan}
-use Rattle.json_text.specs.declared.Scan.TheVariants.{End, Bad}
 use Rattle.json_text.specs.declared.string.State.TheVariants.{Plain, Escape}
+use Rattle.json_text.specs.declared.string.Move.TheVariants.{Go}
 
 -- a byte that begins no string, array or object
 pub record Bare (b : ℕ) : Type 0 where
@@ -16,7 +15,7 @@ pub record Bare (b : ℕ) : Type 0 where
   pub no-string : b ≡ 34 → ⊥
 
 -- a scan's answer is the value at each depth
-pub record Leaf (s : List ℕ) (at : ℕ) (r : Scan) : Type 0 where
+pub record Leaf (s : List ℕ) (at : ℕ) (r : Result ℕ ℕ) : Type 0 where
   pub at-depth : (d : ℕ) → Scanned (value_at d s at) at (length s) r
 
 -- a scan at most 16 deep leaves the table right
@@ -24,26 +23,26 @@ pub record Kept (depth : ℕ) (s before after : List ℕ) : Type 0 where
   pub keeps : depth ≤ 16 → Ends s before → Ends s after
 
 -- at most the entry at `at` is another, and then it is where the scan ended
-pub record Noted (at : ℕ) (r : Scan) (before after : List ℕ) : Type 0 where
-  pub at_most : (k : ℕ) → (get_or after k 0 ≡ get_or before k 0) ⊎ ((k ≡ at) × (r ≡ End (get_or after k 0)))
-
-pub record Least (a b r : ℕ) : Type 0 where
-  pub to : r ≤ b
-  pub below : (k : ℕ) → k < a → k < b → k < r
+pub record Noted (at : ℕ) (r : Result ℕ ℕ) (before after : List ℕ) : Type 0 where
+  pub at_most : (k : ℕ) → (get_or after k 0 ≡ get_or before k 0) ⊎ ((k ≡ at) × (r ≡ Ok (get_or after k 0)))
 
 -- the entries of the first n places tell nothing
 pub record Cleared (n : ℕ) (ends : List ℕ) : Type 0 where
   pub low : (k : ℕ) → k < n → get_or ends k 0 ≤ 1
 
--- an answer that is not 0 is the entry at k, and lies in a text of length n, more than one past k
-pub record Told (ends : List ℕ) (k n r : ℕ) : Type 0 where
-  pub entry : (r ≡ 0 → ⊥) → (r ≡ get_or ends k 0) × (suc k < r) × (r ≤ n)
+-- what is told is the entry at k, and lies in a text of length n, more than one past k
+pub record Told (ends : List ℕ) (k n : ℕ) (r : Option ℕ) : Type 0 where
+  pub entry : (e : ℕ) → r ≡ Some e → (e ≡ get_or ends k 0) × (suc k < e) × (e ≤ n)
 
 -- ---- strings
 
 -- a byte stands for itself
 unfoldable pub stands_for_itself : ℕ → Bool
 stands_for_itself b = in_range 32 255 b && (not (eqb b 34) && not (eqb b 92))
+
+-- the first n bytes stand for themselves
+pub record EachPlain (block : List ℕ) (n : ℕ) : Type 0 where
+  pub each : (k : ℕ) → k < n → plain_step (get_or block k 0) ≡ Go Plain
 
 -- the bytes from `at` to i stand for themselves: no backslash is among them, and reading on from i is reading from `at`
 pub record Run (s : List ℕ) (at i : ℕ) : Type 0 where
@@ -58,9 +57,9 @@ pub record RunOver (s : List ℕ) (at i : ℕ) : Type 0 where
   pub over : stands_for_itself (byte s i) ≡ false
 
 -- where an escape ends whose backslash stands before `at`
-abbrev pub EscapeEnds : List ℕ → ℕ → Scan → Type 0
-EscapeEnds s at (End e) = (at < e) × (e ≤ length s) × (text Plain (drop e s) e ≡ text Escape (drop at s) at)
-EscapeEnds s at (Bad e) = (at ≤ e) × (e ≤ length s) × (Bad e ≡ text Escape (drop at s) at)
+abbrev pub EscapeEnds : List ℕ → ℕ → Result ℕ ℕ → Type 0
+EscapeEnds s at (Ok e) = (at < e) × (e ≤ length s) × (text Plain (drop e s) e ≡ text Escape (drop at s) at)
+EscapeEnds s at (Err e) = (at ≤ e) × (e ≤ length s) × (Err e ≡ text Escape (drop at s) at)
 
-pub record Escaped (s : List ℕ) (at : ℕ) (r : Scan) : Type 0 where
+pub record Escaped (s : List ℕ) (at : ℕ) (r : Result ℕ ℕ) : Type 0 where
   pub ends : EscapeEnds s at r

@@ -1,9 +1,7 @@
 -- JSON's strings (RFC 8259, 7), byte by byte.
-use Rattle.std.specs.Prelude.{ℕ, ◌+◌, ◌-◌, List, [], ◌∷◌, Bool, true, false, ◌||◌, take, drop, eqb}
+use Rattle.std.specs.Prelude.{ℕ, ◌+◌, ◌-◌, List, [], ◌∷◌, Bool, true, false, ◌||◌, take, drop, eqb, Err, Ok, Result}
 use Rattle.abnf.specs.Accepts.{in_range}
 use Rattle.json_text.specs.Bytes.{byte}
-use Rattle.json_text.specs.declared.Scan.{Scan}
-use Rattle.json_text.specs.declared.Scan.TheVariants.{End, Bad}
 use Rattle.json_text.specs.declared.string.State.{State}
 use Rattle.json_text.specs.declared.string.State.TheVariants.{Plain, Escape, Hex4, Hex3, Hex2, Hex1}
 use Rattle.json_text.specs.declared.string.Move.{Move}
@@ -38,17 +36,17 @@ text_step Hex2 b = hex_step Hex1 b
 text_step Hex1 b = hex_step Plain b
 
 -- the rest of a string from a state, `at` the index of the list's first byte
-unfoldable pub text : State → List ℕ → ℕ → Scan
-text t [] at = Bad at
-text t (b ∷ bs) at = elim (text_step t b) [ Go u ↦ text u bs (at + 1) | Shut ↦ End (at + 1) | Stuck ↦ Bad at ]
+unfoldable pub text : State → List ℕ → ℕ → Result ℕ ℕ
+text t [] at = Err at
+text t (b ∷ bs) at = elim (text_step t b) [ Go u ↦ text u bs (at + 1) | Shut ↦ Ok (at + 1) | Stuck ↦ Err at ]
 
 -- the string at `at`, from its opening quote
-unfoldable pub string_at : List ℕ → ℕ → Scan
-string_at s at = elim (eqb (byte s at) 34) [ true ↦ text Plain (drop (at + 1) s) (at + 1) | false ↦ Bad at ]
+unfoldable pub string_at : List ℕ → ℕ → Result ℕ ℕ
+string_at s at = elim (eqb (byte s at) 34) [ true ↦ text Plain (drop (at + 1) s) (at + 1) | false ↦ Err at ]
 
 -- the bytes between the quotes of the string at k, as sent. None where no string stands there
 unfoldable pub raw_bytes : List ℕ → ℕ → List ℕ
-raw_bytes s k = elim (string_at s k) [ End e ↦ take ((e - 1) - (k + 1)) (drop (k + 1) s) | Bad e ↦ [] ]
+raw_bytes s k = elim (string_at s k) [ Ok e ↦ take ((e - 1) - (k + 1)) (drop (k + 1) s) | Err e ↦ [] ]
 
 -- no backslash
 unfoldable pub is_plain : List ℕ → Bool

@@ -2,12 +2,11 @@
 ghost use Rattle.std.specs.Prelude.{◌≡◌, ◌+◌, ◌-◌, ◌≤◌, length, take, drop, true, false};
 ghost use Rattle.json_text.specs.Bytes.{Scanned};
 ghost use Rattle.json_text.specs.Strings.{is_hex, is_escape, plain_step, escape_step, hex_step, text_step, string_at, raw_bytes, is_plain};
-ghost use Rattle.json_text.specs.Parts.{Kept, stands_for_itself, Run, RunOver, Escaped};
+ghost use Rattle.json_text.specs.Parts.{Kept, stands_for_itself, EachPlain, Run, RunOver, Escaped};
 ghost use Rattle.json_text.specs.declared.string.State.TheVariants.{Plain};
 ghost use Rattle.json_text.specs.declared.string.Move.TheVariants.{Go};
 
-use super::{in_range, note, peek};
-use crate::Scan;
+use super::{note, peek};
 
 // Within a string: plain, after a backslash, or with so many hex digits to come.
 #[derive(Clone, Copy)]
@@ -21,6 +20,7 @@ pub enum State {
 }
 
 // What a byte does: to another state, past the closing quote, or it cannot stand there.
+// Kept by hand: three ways on, which a `Result<Option<State>, _>` would name twice over; the definitions of specs/Strings.antt give their meaning by these names.
 #[derive(Clone, Copy)]
 pub enum Move {
     Go(State),
@@ -28,48 +28,30 @@ pub enum Move {
     Stuck,
 }
 
+#[tactic(auto, unfolding(crate::specs::Strings::is_hex, abnf::specs::Accepts::in_range))]
 fn is_hex(b: u16) -> bool
     ensures { result ≡ is_hex b }
 {
-    if in_range(b, 48, 57) {
-        return true;
-    }
-    if in_range(b, 65, 70) {
-        return true;
-    }
-    in_range(b, 97, 102)
+    matches!(b, 48..=57 | 65..=70 | 97..=102)
 }
 
+#[tactic(auto, unfolding(crate::specs::Strings::plain_step, abnf::specs::Accepts::in_range))]
 fn plain_step(b: u16) -> Move
     ensures { result ≡ plain_step b }
 {
-    if b == 34 {
-        return Move::Shut;
-    }
-    if b == 92 {
-        return Move::Go(State::Escape);
-    }
-    if in_range(b, 32, 255) {
-        Move::Go(State::Plain)
-    } else {
-        Move::Stuck
+    match b {
+        34 => Move::Shut,
+        92 => Move::Go(State::Escape),
+        32..=255 => Move::Go(State::Plain),
+        _ => Move::Stuck,
     }
 }
 
+#[tactic(auto, unfolding(crate::specs::Strings::is_escape))]
 fn is_escape(b: u16) -> bool
     ensures { result ≡ is_escape b }
 {
-    match b {
-        34 => true,
-        47 => true,
-        92 => true,
-        98 => true,
-        102 => true,
-        110 => true,
-        114 => true,
-        116 => true,
-        _ => false,
-    }
+    matches!(b, 34 | 47 | 92 | 98 | 102 | 110 | 114 | 116)
 }
 
 fn escape_step(b: u16) -> Move
@@ -112,34 +94,29 @@ fn text_step(t: State, b: u16) -> Move
 fn stands_unbranched(b: u8) -> bool
     ensures { result ≡ true → plain_step b ≡ Go Plain }
 {
-    (b >= 32) & (b != 34) & (b != 92)
+    (b >= 32) & (b != b'"') & (b != b'\\')
 }
 
-fn are_plain_4(s: &[u8], i: usize) -> bool
-    requires { i + 4 ≤ length s.now }
-    ensures { result ≡ true → Run s.now i (i + 4) }
+// Whether each byte of a block stands for itself; all are tested, whatever the first ones are.
+fn are_plain(block: &[u8]) -> bool
+    ensures { result ≡ true → EachPlain block.now (length block.now) }
 {
-    stands_unbranched(s[i])
-        & stands_unbranched(s[i + 1])
-        & stands_unbranched(s[i + 2])
-        & stands_unbranched(s[i + 3])
-}
-
-fn are_plain_8(s: &[u8], i: usize) -> bool
-    requires { i + 8 ≤ length s.now }
-    ensures { result ≡ true → Run s.now i (i + 8) }
-{
-    are_plain_4(s, i) & are_plain_4(s, i + 4)
+    let mut all = true;
+    for b in block {
+        all = all & stands_unbranched(*b);
+    }
+    all
 }
 
 // Past bytes from `at` on that stand for themselves, 8 at a time.
+// Kept by hand: the blocks begin at `at`, and what is left goes on from an index: chunks would be counted back into one.
 fn plain_blocks(s: &[u8], at: usize) -> usize
     requires { at ≤ length s.now }
     ensures { Run s.now at result }
 {
     let mut i = at;
     while s.len() - i >= 8 {
-        if !are_plain_8(s, i) {
+        if !are_plain(&s[i..i + 8]) {
             return i;
         }
         i += 8;
@@ -148,6 +125,7 @@ fn plain_blocks(s: &[u8], at: usize) -> usize
 }
 
 // Whether a byte stands for itself: few tests for most bytes.
+// Kept by hand: most bytes of a text are told by the first test or the third; a range pattern leaves their order open.
 fn stands_for_itself(b: u8) -> bool
     ensures { result ≡ stands_for_itself b }
 {
@@ -171,14 +149,12 @@ fn plain_bytes(s: &[u8], at: usize) -> usize
     requires { at ≤ length s.now }
     ensures { RunOver s.now at result }
 {
-    let mut i = at;
-    while i < s.len() {
+    for i in at..s.len() {
         if !stands_for_itself(s[i]) {
             return i;
         }
-        i += 1;
     }
-    i
+    s.len()
 }
 
 // Past the bytes from `at` on that stand for themselves.
@@ -189,90 +165,61 @@ fn plain_run(s: &[u8], at: usize) -> usize
     plain_bytes(s, plain_blocks(s, at))
 }
 
-fn is_over(t: State) -> bool
-    ensures { (result ≡ true → t ≡ Plain) × (result ≡ false → t ≡ Plain → ⊥) }
-{
-    match t {
-        State::Plain => true,
-        State::Escape => false,
-        State::Hex4 => false,
-        State::Hex3 => false,
-        State::Hex2 => false,
-        State::Hex1 => false,
-    }
-}
-
 // What stands after a backslash, from `at` on.
-fn escape(s: &[u8], at: usize) -> Scan
+fn escape(s: &[u8], at: usize) -> Result<usize, usize>
     requires { at ≤ length s.now }
     ensures { Escaped s.now at result }
 {
     let mut t = State::Escape;
-    let mut i = at;
-    loop {
-        match text_step(t, peek(s, i)) {
-            Move::Go(u) => {
-                t = u;
-                i += 1;
-                if is_over(u) {
-                    return Scan::End(i);
-                }
-            }
-            Move::Shut => return Scan::Bad(i),
-            Move::Stuck => return Scan::Bad(i),
+    for i in at..s.len() {
+        match text_step(t, u16::from(s[i])) {
+            Move::Go(State::Plain) => return Ok(i + 1),
+            Move::Go(u) => t = u,
+            Move::Shut | Move::Stuck => return Err(i),
         }
     }
+    Err(s.len())
 }
 
 // The string at `at`, from its opening quote; its end is noted if it has no backslash.
-pub(crate) fn mark_string(s: &[u8], at: usize, ends: &mut [u16]) -> Scan
+// Kept by hand: where a run begins is known only once the escape before it is read, so that no range and no iterator goes over them.
+pub(crate) fn mark_string(s: &[u8], at: usize, ends: &mut [u16]) -> Result<usize, usize>
     ensures { Scanned (string_at s.now at) at (length s.now) result × Kept 0 s.now ends.old ends.new }
 {
     if peek(s, at) != 34 {
-        return Scan::Bad(at);
+        return Err(at);
     }
     let mut i = at + 1;
     loop {
         let j = plain_run(s, i);
         match peek(s, j) {
             34 => {
-                let end = Scan::End(j + 1);
+                let end = Ok(j + 1);
                 if i != at + 1 {
                     return end;
                 }
                 note(at, end, ends);
                 return end;
             }
-            92 => match escape(s, j + 1) {
-                Scan::Bad(e) => return Scan::Bad(e),
-                Scan::End(e) => i = e,
-            },
-            _ => return Scan::Bad(j),
+            92 => i = escape(s, j + 1)?,
+            _ => return Err(j),
         }
     }
 }
 
 // The string at `at`.
-pub fn string(s: &[u8], at: usize) -> Scan
+pub fn string(s: &[u8], at: usize) -> Result<usize, usize>
     ensures { Scanned (string_at s.now at) at (length s.now) result }
 {
-    let mut none = [0u16; 1];
-    mark_string(s, at, &mut none)
+    mark_string(s, at, &mut [])
 }
 
 // Whether no backslash stands from `from` up to `to`.
 fn is_plain_between(s: &[u8], from: usize, to: usize) -> bool
-    requires { to ≤ length s.now }
+    requires { (from ≤ to) × (to ≤ length s.now) }
     ensures { result ≡ is_plain (take (to - from) (drop from s.now)) }
 {
-    let mut i = from;
-    while i < to {
-        if s[i] == 92 {
-            return false;
-        }
-        i += 1;
-    }
-    true
+    !s[from..to].contains(&b'\\')
 }
 
 // Whether the string at `at` has no backslash; so it is where no string stands.
@@ -280,7 +227,7 @@ pub fn is_plain(s: &[u8], at: usize) -> bool
     ensures { result ≡ is_plain (raw_bytes s.now at) }
 {
     match string(s, at) {
-        Scan::Bad(_) => true,
-        Scan::End(e) => is_plain_between(s, at + 1, e - 1),
+        Err(_) => true,
+        Ok(e) => is_plain_between(s, at + 1, e - 1),
     }
 }

@@ -1,41 +1,36 @@
 -- Words read, and what is asked.
+use Rattle.faults.specs.declared.Fault.{Fault}
+use Rattle.std.specs.Prelude.{Option, None, Some, Err, Ok, Result}
+use Rattle.answer.specs.Refused.{number_of as paper_number}
+use Rattle.answer.specs.declared.Refused.{Refused}
 use Prim.Native.Nat.{ℕ, zero, suc, ◌+◌, ◌-◌, ◌*◌, ◌≤◌, ◌<◌}
 use mathlib.Core.Path.{◌≡◌, refl, sym, ap, ◌∙◌}
 use mathlib.Core.List.{List, [], ◌∷◌, ◌++◌}
 use mathlib.Core.Bool.{Bool, true, false, cond, ◌&&◌}
-use mathlib.Core.Option.{Option, none, some}
 use native.Mathlib.Omega.{arith}
 use lib.Dec.{leb, eqb}
 use lib.ListN.{length, get_or, take, drop, length-append, length-take, length-drop}
 use lib.Seq.{take_at}
 use borrow.Author.Tests.{le-leb}
 use Rattle.answer.specs.Answer.{Answer, refused, gives, and_then, only}
+use Rattle.answer.specs.declared.Refused.{Refused}
+use Rattle.answer.specs.Refused as refusals
 use Rattle.text.specs.Ascii.{ascii}
 use Rattle.text.specs.Bytes.{eq_bytes, slice}
 use Rattle.text.specs.Split.{split, onto}
 use Rattle.lines.specs.Words.{words, word_at}
-use Rattle.lines.specs.declared.hex.Decoded.{Decoded}
-use Rattle.lines.specs.declared.hex.Decoded.TheVariants.{Bytes, Nothing}
 use Rattle.lines.specs.Hex.{are_pairs, pairs, bytes_of, fitting, counted, in_front, Decodes}
 use Rattle.trace.specs.declared.EventAt.{EventAt}
-use Rattle.trace.specs.declared.Reading.{Reading}
-use Rattle.trace.specs.declared.Written.{Written}
 use Rattle.trace.specs.Layout.{entry_at}
 use Rattle.trace.specs.Calls.{appended, event, read_at, meaning_reading, shown, Placed, PlacedIn, Read, length_of, after, meaning_written, Wrote}
-use Rattle.lines.specs.declared.number.NumberRead.{NumberRead}
-use Rattle.lines.specs.declared.flag.FlagRead.{FlagRead}
-use Rattle.lines.specs.declared.Input.{Input}
 use Rattle.lines.specs.Out.{FitsBuffer}
-use Rattle.lines.specs.Number.{number_of, number_read, decimal_text}
-use Rattle.lines.specs.Flag.{flag_of, flag_read}
+use Rattle.lines.specs.Number.{number_of, decimal_text}
+use Rattle.lines.specs.Flag.{flag_of}
 use Rattle.payload.specs.declared.Datatype.{Datatype}
-use Rattle.payload.specs.declared.Named.{Named}
-use Rattle.payload.specs.Datatypes.{datatype_named, named}
+use Rattle.payload.specs.Datatypes.{datatype_named}
 use Rattle.topic.specs.declared.Topic.{Topic}
-use Rattle.topic.specs.Meaning.{meaning, Shows}
+use Rattle.topic.specs.Meaning.{form_at, meaning, Shows}
 use Rattle.topic.specs.Topics.{read_topic}
-use Rattle.faults.specs.declared.Told.{Told}
-use Rattle.faults.specs.declared.Told.TheVariants.{Nothing, At}
 use Rattle.description.specs.Description as description
 use Rattle.description.proofs.Theorems.{told-nothing, told_at}
 use Rattle.judge.specs.Texts.{numbers_text, told, form_text, event_text, used_text}
@@ -78,88 +73,84 @@ all_fit : (w : List ℕ) (n : ℕ) → length w ≤ 2 * n → fitting n (bytes_o
 unfolding bytes_of fitting
 all_fit w n h = pick (eq_bytes w (ascii "-")) (leb 1 (length w) && are_pairs w)
   where
-    pick : (a b : Bool) → fitting n (cond a (some []) (cond b (some (pairs w)) none)) ≡ cond a (some []) (cond b (some (pairs w)) none)
+    pick : (a b : Bool) → fitting n (cond a (Some []) (cond b (Some (pairs w)) None)) ≡ cond a (Some []) (cond b (Some (pairs w)) None)
     pick true b = rw (le-leb 0 n (omega arith))
     pick false true = rw (le-leb (length (pairs w)) n (omega (arith, pairs-short w)))
     pick false false = refl
 
 -- the first n bytes of the memory are what the word says
 pub record Got (o : Option (List ℕ)) (d : List ℕ) (n : ℕ) : Type 0 where
-  pub bytes : o ≡ some (slice d 0 n)
+  pub bytes : o ≡ Some (slice d 0 n)
   pub inside : n ≤ length d
 
-got : (d : List ℕ) (o : Option (List ℕ)) (n : ℕ) → Bytes n ≡ counted o → Got o (in_front d o) n
+got : (d : List ℕ) (o : Option (List ℕ)) (n : ℕ) → Some n ≡ counted o → Got o (in_front d o) n
 unfolding counted in_front
-got d none n e = let z : ◌≡◌ {A = ℕ} 0 1 = cc in absurd (omega arith)
-got d (some b) n e =
+got d None n e = let z : ◌≡◌ {A = ℕ} 0 1 = cc in absurd (omega arith)
+got d (Some b) n e =
     let k : n ≡ length b = cc in
     let z : length b - 0 ≡ length b = omega arith in
     record { bytes = rw (k, z, take_at b (drop (length b) d) (length b) refl); inside = rw length-append (omega arith) }
 
-missed : (o : Option (List ℕ)) → Nothing ≡ counted o → o ≡ none
+missed : (o : Option (List ℕ)) → None ≡ counted o → o ≡ None
 unfolding counted
-missed none e = refl
-missed (some b) e = let z : ◌≡◌ {A = ℕ} 0 1 = cc in absurd (omega arith)
+missed None e = refl
+missed (Some b) e = let z : ◌≡◌ {A = ℕ} 0 1 = cc in absurd (omega arith)
 
-module _ {w d d' : List ℕ} {r : Decoded} (p : Decodes w d r d') (h : length w ≤ 2 * length d) where
-  pub decoded : (n : ℕ) → r ≡ Bytes n → Got (bytes_of w) d' n
+module _ {w d d' : List ℕ} {r : Option ℕ} (p : Decodes w d r d') (h : length w ≤ 2 * length d) where
+  pub decoded : (n : ℕ) → r ≡ Some n → Got (bytes_of w) d' n
   decoded n e =
       let f : fitting (length d) (bytes_of w) ≡ bytes_of w = all_fit w (length d) h in
-      let a : Bytes n ≡ counted (bytes_of w) = sym e ∙ rw f at p.answer in
+      let a : Some n ≡ counted (bytes_of w) = sym e ∙ rw f at p.answer in
       let m : d' ≡ in_front d (bytes_of w) = rw f at p.memory in
       rw m (got d (bytes_of w) n a)
 
-  pub not-decoded : r ≡ Nothing → bytes_of w ≡ none
+  pub not-decoded : r ≡ None → bytes_of w ≡ None
   not-decoded e =
       let f : fitting (length d) (bytes_of w) ≡ bytes_of w = all_fit w (length d) h in
       missed (bytes_of w) (sym e ∙ rw f at p.answer)
 
 -- the same, where the word is one of the line
-module _ (line : List ℕ) (k : ℕ) {w d d' : List ℕ} {r : Decoded} (e : w ≡ word_at line k) (p : Decodes w d r d') (h : length line ≤ 65536) (m : 65536 ≡ length d) where
+module _ (line : List ℕ) (k : ℕ) {w d d' : List ℕ} {r : Option ℕ} (e : w ≡ word_at line k) (p : Decodes w d r d') (h : length line ≤ 65536) (m : 65536 ≡ length d) where
   fits_word : length w ≤ 2 * length d
   fits_word = rw e (let l = word-short line k in omega arith)
 
-  pub word_bytes : (n : ℕ) → r ≡ Bytes n → Got (bytes_of (word_at line k)) d' n
+  pub word_bytes : (n : ℕ) → r ≡ Some n → Got (bytes_of (word_at line k)) d' n
   word_bytes n q = rw e at (decoded p fits_word n q)
 
-  pub word_none : r ≡ Nothing → bytes_of (word_at line k) ≡ none
+  pub word_none : r ≡ None → bytes_of (word_at line k) ≡ None
   word_none q = rw e at (not-decoded p fits_word q)
 
 -- ---- other words
 
 module _ (line : List ℕ) (k : ℕ) {w : List ℕ} (e : w ≡ word_at line k) where
-  pub word-named : {r : Named} {d : Datatype} → named r ≡ datatype_named w → r ≡ Named.Known d → datatype_named (word_at line k) ≡ some d
+  pub word-named : {r : Option Datatype} {d : Datatype} → r ≡ datatype_named w → r ≡ Some d → datatype_named (word_at line k) ≡ Some d
   word-named p q = sym (rw (e, q) at p)
 
-  pub word_unnamed : {r : Named} → named r ≡ datatype_named w → r ≡ Named.Unknown → datatype_named (word_at line k) ≡ none
+  pub word_unnamed : {r : Option Datatype} → r ≡ datatype_named w → r ≡ None → datatype_named (word_at line k) ≡ None
   word_unnamed p q = sym (rw (e, q) at p)
 
-  pub word_number : {r : NumberRead} {n : ℕ} → number_read r ≡ number_of w → r ≡ NumberRead.Value n → number_of (word_at line k) ≡ some n
+  pub word_number : {r : Option ℕ} {n : ℕ} → r ≡ number_of w → r ≡ Some n → number_of (word_at line k) ≡ Some n
   word_number p q = sym (rw (e, q) at p)
 
-  pub word_no-number : {r : NumberRead} → number_read r ≡ number_of w → r ≡ NumberRead.Nothing → number_of (word_at line k) ≡ none
+  pub word_no-number : {r : Option ℕ} → r ≡ number_of w → r ≡ None → number_of (word_at line k) ≡ None
   word_no-number p q = sym (rw (e, q) at p)
 
-  pub word-flag : {r : FlagRead} {b : Bool} → flag_read r ≡ flag_of w → r ≡ FlagRead.Is b → flag_of (word_at line k) ≡ some b
+  pub word-flag : {r : Option Bool} {b : Bool} → r ≡ flag_of w → r ≡ Some b → flag_of (word_at line k) ≡ Some b
   word-flag p q = sym (rw (e, q) at p)
 
-  pub word_no-flag : {r : FlagRead} → flag_read r ≡ flag_of w → r ≡ FlagRead.Nothing → flag_of (word_at line k) ≡ none
+  pub word_no-flag : {r : Option Bool} → r ≡ flag_of w → r ≡ None → flag_of (word_at line k) ≡ None
   word_no-flag p q = sym (rw (e, q) at p)
 
 -- ---- answers of the trace
 
-module _ {f : List ℕ} {i : ℕ} {r : Reading} (p : Read f i r) where
-  pub read-refused : (k : ℕ) → r ≡ Reading.Refused k → read_at f i ≡ refused (only k)
+module _ {f : List ℕ} {i : ℕ} {r : Result EventAt Refused} (p : Read f i r) where
+  pub read-refused : (k : Refused) → r ≡ Err k → read_at f i ≡ refused (refusals.refusal_of k)
   unfolding meaning_reading
   read-refused k e = sym (rw e at p.answer)
 
-  pub read_found : (e : EventAt) → r ≡ Reading.Found e → read_at f i ≡ gives (shown f e)
+  pub read_found : (e : EventAt) → r ≡ Ok e → read_at f i ≡ gives (shown f e)
   unfolding meaning_reading
   read_found e q = sym (rw q at p.answer)
-
-  pub read-placed : (e : EventAt) → r ≡ Reading.Found e → Placed f (entry_at f (16 + 24 * i)) e
-  unfolding PlacedIn
-  read-placed e q = rw q at p.places
 
 -- the buffer that is shown is the one afterwards
 after-told : (m : List ℕ) (a : Answer (List ℕ)) → told (used_text (after m a)) (length_of a) ≡ told (λ file. used_text (after m (gives file)) (length file)) a
@@ -167,7 +158,7 @@ unfolding told length_of and_then after
 after-told m (refused k) = refl
 after-told m (gives f) = refl
 
-pub append-says : (m : List ℕ) (u t : ℕ) (topic : List ℕ) (b : Bool) (payload : List ℕ) {r : Written} {m' : List ℕ} → Wrote m (appended m u (event t topic b payload)) r m' → told (used_text m') (meaning_written r) ≡ of_append m u t topic b payload
+pub append-says : (m : List ℕ) (u t : ℕ) (topic : List ℕ) (b : Bool) (payload : List ℕ) {r : Result ℕ Refused} {m' : List ℕ} → Wrote m (appended m u (event t topic b payload)) r m' → told (used_text m') (meaning_written r) ≡ of_append m u t topic b payload
 unfolding of_append
 append-says m u t topic b payload p = rw (p.memory, p.answer) (after-told m (appended m u (event t topic b payload)))
 
@@ -176,7 +167,7 @@ append-says m u t topic b payload p = rw (p.memory, p.answer) (after-told m (app
 pub slice_fits : (t : List ℕ) (s e : ℕ) → length t ≤ 65536 → length (slice t s e) ≤ 65536
 slice_fits t s e h = simp (length-take, length-drop) (omega arith)
 
-pub input-fits : (r : Input) (d : List ℕ) (n : ℕ) → FitsBuffer r d → r ≡ Input.Bytes n → n < length d
+pub input-fits : (r : Option ℕ) (d : List ℕ) (n : ℕ) → FitsBuffer r d → r ≡ Some n → n < length d
 input-fits r d n p e = rw e at p
 
 pub input-short : (d : List ℕ) (n : ℕ) → n ≤ 65536 → length (take (n - 0) d) ≤ 65536
@@ -184,20 +175,25 @@ input-short d n h = simp length-take (omega arith)
 
 -- ---- answers of the libraries as text
 
-pub topic-says : (domain topic : List ℕ) {at : ℕ} {t : Topic} → Shows topic at (read_topic domain topic) t → told form_text (meaning topic t) ≡ of_topic domain topic
-unfolding of_topic
-topic-says domain topic p = ap (told form_text) p.says
+module _ (domain topic : List ℕ) {at : ℕ} {r : Result Topic Refused} (p : Shows topic at (read_topic domain topic) r) where
+  pub topic-form : (t : Topic) → r ≡ Ok t → form_text (form_at topic t) ≡ of_topic domain topic
+  unfolding of_topic told
+  topic-form t e = ap (λ (s : Result Topic Refused). told form_text (meaning topic s)) (sym e) ∙ ap (told form_text) p.says
 
-pub description-says : (own s : List ℕ) (t : Told) → t ≡ description.told own s → told_text t ≡ of_description own s
+  pub topic-refused : (e : Refused) (n : ℕ) → r ≡ Err e → n ≡ paper_number e → ascii "refused " ++ decimal_text n ≡ of_topic domain topic
+  unfolding of_topic told numbers_text
+  topic-refused e n q k = rw k (ap (λ (s : Result Topic Refused). told form_text (meaning topic s)) (sym q) ∙ ap (told form_text) p.says)
+
+pub description-says : (own s : List ℕ) (t : Option Fault) → t ≡ description.told own s → told_text t ≡ of_description own s
 unfolding of_description told_text told
-description-says own s Nothing p = sym (ap (told (λ (d : description.Described). ascii "yes")) (told-nothing own s (sym p)))
-description-says own s (At q n) p = sym (ap (told (λ (d : description.Described). ascii "yes")) (told_at own s (sym p)))
+description-says own s None p = sym (ap (told (λ (d : description.Described). ascii "yes")) (told-nothing own s (sym p)))
+description-says own s (Some x) p = sym (ap (told (λ (d : description.Described). ascii "yes")) (told_at own s (sym p)))
 
-module _ {f : List ℕ} {i : ℕ} {r : Reading} (p : Read f i r) where
-  pub event-refused : (k : ℕ) → r ≡ Reading.Refused k → ascii "refused " ++ decimal_text k ≡ of_event f i
+module _ {f : List ℕ} {i : ℕ} {r : Result EventAt Refused} (p : Read f i r) where
+  pub event-refused : (k : Refused) → r ≡ Err k → ascii "refused " ++ decimal_text (refusals.number_of k) ≡ of_event f i
   unfolding of_event told numbers_text
   event-refused k e = rw (read-refused p k e)
 
-  pub event-found : (e : EventAt) → r ≡ Reading.Found e → event_text (shown f e) ≡ of_event f i
+  pub event-found : (e : EventAt) → r ≡ Ok e → event_text (shown f e) ≡ of_event f i
   unfolding of_event told
   event-found e q = rw (read_found p e q)

@@ -1,10 +1,15 @@
 -- Answers as text.
+use Rattle.faults.specs.declared.Fault.{Fault}
+use Rattle.std.specs.Prelude.{None, Option, Some, Err, Ok, Result}
+use Rattle.faults.specs.Faults.{fault_number}
 use Prim.Native.Nat.{ℕ, ◌+◌}
 use native.Mathlib.Nat.{add-sub_cancel_left}
 use mathlib.Core.Path.{◌≡◌, refl}
 use mathlib.Core.List.{List, ◌++◌}
 use mathlib.Core.Bool.{Bool, true, false}
 use lib.ListN.{take, drop}
+use Rattle.answer.specs.declared.Refused.{Refused}
+use Rattle.answer.specs.Refused.{number_of}
 use Rattle.text.specs.Ascii.{ascii}
 use Rattle.text.specs.Bytes.{slice}
 use Rattle.lines.specs.Number.{decimal_text}
@@ -14,13 +19,9 @@ use Rattle.lines.proofs.Adding.{put-adds, adds_then}
 use Rattle.text.specs.declared.Place.{Place}
 use Rattle.topic.specs.declared.Topic.{Topic}
 use Rattle.text.specs.Places.{bytes_at}
-use Rattle.topic.specs.Meaning.{meaning}
+use Rattle.topic.specs.Meaning.{form_at}
 use Rattle.trace.specs.declared.EventAt.{EventAt}
-use Rattle.trace.specs.declared.Checked.{Checked}
-use Rattle.trace.specs.declared.Written.{Written}
 use Rattle.trace.specs.Calls.{shown, meaning_checked, meaning_written}
-use Rattle.faults.specs.declared.Told.{Told}
-use Rattle.faults.specs.declared.Told.TheVariants.{Nothing, At}
 use Rattle.judge.specs.Texts.{yes_or_no, numbers_text, told, flag_text, also, three_ids, form_text, events_text, event_text, used_text}
 use Rattle.judge.specs.Parts.{told_text}
 
@@ -46,67 +47,63 @@ says-zero b e = rw e
 
 -- what an answer says, case by case
 module _ (topic : List ℕ) (t : Topic) where
-  pub no-form : {k : ℕ} → t ≡ Topic.Refused k → ascii "refused " ++ decimal_text k ≡ told form_text (meaning topic t)
-  unfolding told numbers_text meaning
-  no-form e = rw e
-
-  pub is_state : {d : Place} → t ≡ Topic.State d → ascii "state" ++ also (bytes_at topic d) ≡ told form_text (meaning topic t)
-  unfolding told form_text meaning
+  pub is_state : {d : Place} → t ≡ Topic.State d → ascii "state" ++ also (bytes_at topic d) ≡ form_text (form_at topic t)
+  unfolding form_text form_at
   is_state e = rw e
 
-  pub is-description : {d : Place} → t ≡ Topic.Description d → ascii "description" ++ also (bytes_at topic d) ≡ told form_text (meaning topic t)
-  unfolding told form_text meaning
+  pub is-description : {d : Place} → t ≡ Topic.Description d → ascii "description" ++ also (bytes_at topic d) ≡ form_text (form_at topic t)
+  unfolding form_text form_at
   is-description e = rw e
 
-  pub is-value : {d n p : Place} → t ≡ Topic.Value d n p → ascii "value" ++ three_ids (bytes_at topic d) (bytes_at topic n) (bytes_at topic p) ≡ told form_text (meaning topic t)
-  unfolding told form_text meaning
+  pub is-value : {d n p : Place} → t ≡ Topic.Value d n p → ascii "value" ++ three_ids (bytes_at topic d) (bytes_at topic n) (bytes_at topic p) ≡ form_text (form_at topic t)
+  unfolding form_text form_at
   is-value e = rw e
 
-  pub is-set : {d n p : Place} → t ≡ Topic.Set d n p → ascii "set" ++ three_ids (bytes_at topic d) (bytes_at topic n) (bytes_at topic p) ≡ told form_text (meaning topic t)
-  unfolding told form_text meaning
+  pub is-set : {d n p : Place} → t ≡ Topic.Set d n p → ascii "set" ++ three_ids (bytes_at topic d) (bytes_at topic n) (bytes_at topic p) ≡ form_text (form_at topic t)
+  unfolding form_text form_at
   is-set e = rw e
 
-  pub is-target : {d n p : Place} → t ≡ Topic.Target d n p → ascii "target" ++ three_ids (bytes_at topic d) (bytes_at topic n) (bytes_at topic p) ≡ told form_text (meaning topic t)
-  unfolding told form_text meaning
+  pub is-target : {d n p : Place} → t ≡ Topic.Target d n p → ascii "target" ++ three_ids (bytes_at topic d) (bytes_at topic n) (bytes_at topic p) ≡ form_text (form_at topic t)
+  unfolding form_text form_at
   is-target e = rw e
 
-  pub is-alert : {d a : Place} → t ≡ Topic.Alert d a → ascii "alert" ++ (also (bytes_at topic d) ++ also (bytes_at topic a)) ≡ told form_text (meaning topic t)
-  unfolding told form_text meaning
+  pub is-alert : {d a : Place} → t ≡ Topic.Alert d a → ascii "alert" ++ (also (bytes_at topic d) ++ also (bytes_at topic a)) ≡ form_text (form_at topic t)
+  unfolding form_text form_at
   is-alert e = rw e
 
-  pub is-log : {d l : Place} → t ≡ Topic.Log d l → ascii "log" ++ also (bytes_at topic d) ≡ told form_text (meaning topic t)
-  unfolding told form_text meaning
+  pub is-log : {d l : Place} → t ≡ Topic.Log d l → ascii "log" ++ also (bytes_at topic d) ≡ form_text (form_at topic t)
+  unfolding form_text form_at
   is-log e = rw e
 
-  pub is-broadcast : {ids : Place} → t ≡ Topic.Broadcast ids → ascii "broadcast" ≡ told form_text (meaning topic t)
-  unfolding told form_text meaning
+  pub is-broadcast : {ids : Place} → t ≡ Topic.Broadcast ids → ascii "broadcast" ≡ form_text (form_at topic t)
+  unfolding form_text form_at
   is-broadcast e = rw e
 
-  pub is-other : {d w ls : Place} → t ≡ Topic.Other d w ls → ascii "other" ++ also (bytes_at topic d) ≡ told form_text (meaning topic t)
-  unfolding told form_text meaning
+  pub is-other : {d w ls : Place} → t ≡ Topic.Other d w ls → ascii "other" ++ also (bytes_at topic d) ≡ form_text (form_at topic t)
+  unfolding form_text form_at
   is-other e = rw e
 
-pub no-events : (c : Checked) {k : ℕ} → c ≡ Checked.Refused k → ascii "refused " ++ decimal_text k ≡ told events_text (meaning_checked c)
+pub no-events : (c : Result ℕ Refused) {r : Refused} → c ≡ Err r → ascii "refused " ++ decimal_text (number_of r) ≡ told events_text (meaning_checked c)
 unfolding told numbers_text meaning_checked
 no-events c e = rw e
 
-pub some-events : (c : Checked) {n : ℕ} → c ≡ Checked.Count n → ascii "events " ++ decimal_text n ≡ told events_text (meaning_checked c)
+pub some-events : (c : Result ℕ Refused) {n : ℕ} → c ≡ Ok n → ascii "events " ++ decimal_text n ≡ told events_text (meaning_checked c)
 unfolding told meaning_checked events_text
 some-events c e = rw e
 
-pub not_taken : (t : Told) {p k : ℕ} → t ≡ At p k → ascii "refused " ++ (decimal_text k ++ (ascii " " ++ decimal_text p)) ≡ told_text t
+pub not_taken : (t : Option Fault) {x : Fault} {k : ℕ} → t ≡ Some x → k ≡ fault_number x.kind → ascii "refused " ++ (decimal_text k ++ (ascii " " ++ decimal_text x.place)) ≡ told_text t
 unfolding told_text numbers_text
-not_taken t e = rw e
+not_taken t e h = rw (e, h)
 
-pub is-taken : (t : Told) → t ≡ Nothing → ascii "yes" ≡ told_text t
+pub is-taken : (t : Option Fault) → t ≡ None → ascii "yes" ≡ told_text t
 unfolding told_text
 is-taken t e = rw e
 
-pub not_used : (m : List ℕ) (w : Written) {k : ℕ} → w ≡ Written.Refused k → ascii "refused " ++ decimal_text k ≡ told (used_text m) (meaning_written w)
+pub not_used : (m : List ℕ) (w : Result ℕ Refused) {r : Refused} → w ≡ Err r → ascii "refused " ++ decimal_text (number_of r) ≡ told (used_text m) (meaning_written w)
 unfolding told numbers_text meaning_written
 not_used m w e = rw e
 
-pub is_used : (m : List ℕ) (w : Written) {n : ℕ} → w ≡ Written.Length n → ascii "used " ++ (decimal_text n ++ (ascii " " ++ hex_of m)) ≡ told (used_text m) (meaning_written w)
+pub is_used : (m : List ℕ) (w : Result ℕ Refused) {n : ℕ} → w ≡ Ok n → ascii "used " ++ (decimal_text n ++ (ascii " " ++ hex_of m)) ≡ told (used_text m) (meaning_written w)
 unfolding told meaning_written used_text
 is_used m w e = rw e
 
@@ -120,16 +117,13 @@ unfolding three_ids
 three_is x y z = refl
 
 -- an event
-slice_of : (f : List ℕ) (a n : ℕ) → slice f a (a + n) ≡ take n (drop a f)
-slice_of f a n = rw add-sub_cancel_left
-
 pub adds-event : (f : List ℕ) (e : EventAt) {d0 d1 d2 d3 d4 d5 t p : List ℕ} {r1 r2 r3 r4 r5 : ℕ}
-    → Puts d0 0 (decimal_text e.time) r1 d1 → Puts d1 r1 (ascii " ") r2 d2 → t ≡ slice f e.topic (e.topic + e.tlen) → Puts d2 r2 (hex_of t) r3 d3
-    → Adds d3 r3 (flag_text e.retained) r4 d4 → p ≡ slice f e.payload (e.payload + e.plen) → Puts d4 r4 (hex_of p) r5 d5
+    → Puts d0 0 (decimal_text e.time) r1 d1 → Puts d1 r1 (ascii " ") r2 d2 → t ≡ bytes_at f e.topic → Puts d2 r2 (hex_of t) r3 d3
+    → Adds d3 r3 (flag_text e.retained) r4 d4 → p ≡ bytes_at f e.payload → Puts d4 r4 (hex_of p) r5 d5
     → Adds d0 0 (event_text (shown f e)) r5 d5
 unfolding event_text shown
 adds-event f e {d0} {d1} {d2} {d3} {d4} {d5} {t} {p} {r1} {r2} {r3} {r4} {r5} a b k c g l h =
     adds_then (put-adds d0 0 (decimal_text e.time) a)
     (adds_then (put-adds d1 r1 (ascii " ") b)
-    (adds_then (put-adds d2 r2 (hex_of (take e.tlen (drop e.topic f))) (rw (k, slice_of) at c))
-    (adds_then g (put-adds d4 r4 (hex_of (take e.plen (drop e.payload f))) (rw (l, slice_of) at h)))))
+    (adds_then (put-adds d2 r2 (hex_of (bytes_at f e.topic)) (rw k at c))
+    (adds_then g (put-adds d4 r4 (hex_of (bytes_at f e.payload)) (rw l at h)))))

@@ -1,9 +1,9 @@
 -- Each question of a line, as its words show it.
+use Rattle.std.specs.Prelude.{None, Some}
 use Prim.Native.Nat.{ℕ}
 use mathlib.Core.Path.{◌≡◌}
 use mathlib.Core.List.{List}
 use mathlib.Core.Bool.{Bool, true, false}
-use mathlib.Core.Option.{none, some}
 use borrow.Author.Tests.{eq-eqb, ne_eqb}
 use Rattle.text.specs.Ascii.{ascii}
 use Rattle.text.specs.Bytes.{eq_bytes}
@@ -78,114 +78,114 @@ module _ (v m u t a f b : List ℕ) where
   seven-other e0 = rw (← e0)
 
 module _ (v a : List ℕ) where
-  pub two_no_1 : bytes_of a ≡ none → unknown ≡ two v a
+  pub two_no_1 : bytes_of a ≡ None → unknown ≡ two v a
   unfolding two given
   two_no_1 e0 = rw (e0)
 
-  pub two-all : {u x : List ℕ} → u ≡ v → bytes_of a ≡ some x → of_bytes u x ≡ two v a
+  pub two-all : {u x : List ℕ} → u ≡ v → bytes_of a ≡ Some x → of_bytes u x ≡ two v a
   unfolding two given
   two-all e0 e1 = rw (e0, e1)
 
 module _ (a b : List ℕ) where
-  pub topic_no_1 : bytes_of a ≡ none → unknown ≡ topic_line a b
+  pub topic_no_1 : bytes_of a ≡ None → unknown ≡ topic_line a b
   unfolding topic_line given
   topic_no_1 e0 = rw (e0)
 
-  pub topic_no_2 : {x : List ℕ} → bytes_of a ≡ some x → bytes_of b ≡ none → unknown ≡ topic_line a b
+  pub topic_no_2 : {x : List ℕ} → bytes_of a ≡ Some x → bytes_of b ≡ None → unknown ≡ topic_line a b
   unfolding topic_line given
   topic_no_2 e0 e1 = rw (e0, e1)
 
-  pub topic-all : {x : List ℕ} {y : List ℕ} → bytes_of a ≡ some x → bytes_of b ≡ some y → of_topic x y ≡ topic_line a b
+  pub topic-all : {x : List ℕ} {y : List ℕ} → bytes_of a ≡ Some x → bytes_of b ≡ Some y → of_topic x y ≡ topic_line a b
   unfolding topic_line given
   topic-all e0 e1 = rw (e0, e1)
 
 module _ (a b : List ℕ) where
-  pub description_no_1 : bytes_of a ≡ none → unknown ≡ description_line a b
+  pub description_no_1 : bytes_of a ≡ None → unknown ≡ description_line a b
   unfolding description_line given
   description_no_1 e0 = rw (e0)
 
-  pub description_no_2 : {x : List ℕ} → bytes_of a ≡ some x → bytes_of b ≡ none → unknown ≡ description_line a b
+  pub description_no_2 : {x : List ℕ} → bytes_of a ≡ Some x → bytes_of b ≡ None → unknown ≡ description_line a b
   unfolding description_line given
   description_no_2 e0 e1 = rw (e0, e1)
 
-  pub description-all : {x : List ℕ} {y : List ℕ} → bytes_of a ≡ some x → bytes_of b ≡ some y → of_description x y ≡ description_line a b
+  pub description-all : {x : List ℕ} {y : List ℕ} → bytes_of a ≡ Some x → bytes_of b ≡ Some y → of_description x y ≡ description_line a b
   unfolding description_line given
   description-all e0 e1 = rw (e0, e1)
 
 module _ (a b : List ℕ) where
-  pub format_no_1 : datatype_named a ≡ none → unknown ≡ format_line a b
+  pub format_no_1 : datatype_named a ≡ None → unknown ≡ format_line a b
   unfolding format_line given
   format_no_1 e0 = rw (e0)
 
-  pub format_no_2 : {x : Datatype} → datatype_named a ≡ some x → bytes_of b ≡ none → unknown ≡ format_line a b
+  pub format_no_2 : {x : Datatype} → datatype_named a ≡ Some x → bytes_of b ≡ None → unknown ≡ format_line a b
   unfolding format_line given
   format_no_2 e0 e1 = rw (e0, e1)
 
-  pub format-all : {x : Datatype} {y : List ℕ} → datatype_named a ≡ some x → bytes_of b ≡ some y → yes_or_no (is_format x y) ≡ format_line a b
+  pub format-all : {x : Datatype} {y : List ℕ} → datatype_named a ≡ Some x → bytes_of b ≡ Some y → yes_or_no (is_format x y) ≡ format_line a b
   unfolding format_line given
   format-all e0 e1 = rw (e0, e1)
 
 module _ (a b : List ℕ) where
-  pub event_no_1 : bytes_of a ≡ none → unknown ≡ event_line a b
+  pub event_no_1 : bytes_of a ≡ None → unknown ≡ event_line a b
   unfolding event_line given
   event_no_1 e0 = rw (e0)
 
-  pub event_no_2 : {x : List ℕ} → bytes_of a ≡ some x → number_of b ≡ none → unknown ≡ event_line a b
+  pub event_no_2 : {x : List ℕ} → bytes_of a ≡ Some x → number_of b ≡ None → unknown ≡ event_line a b
   unfolding event_line given
   event_no_2 e0 e1 = rw (e0, e1)
 
-  pub event-all : {x : List ℕ} {y : ℕ} → bytes_of a ≡ some x → number_of b ≡ some y → of_event x y ≡ event_line a b
+  pub event-all : {x : List ℕ} {y : ℕ} → bytes_of a ≡ Some x → number_of b ≡ Some y → of_event x y ≡ event_line a b
   unfolding event_line given
   event-all e0 e1 = rw (e0, e1)
 
 module _ (a b c : List ℕ) where
-  pub payload_no_1 : datatype_named a ≡ none → unknown ≡ payload_line a b c
+  pub payload_no_1 : datatype_named a ≡ None → unknown ≡ payload_line a b c
   unfolding payload_line given
   payload_no_1 e0 = rw (e0)
 
-  pub payload_no_2 : {x : Datatype} → datatype_named a ≡ some x → bytes_of b ≡ none → unknown ≡ payload_line a b c
+  pub payload_no_2 : {x : Datatype} → datatype_named a ≡ Some x → bytes_of b ≡ None → unknown ≡ payload_line a b c
   unfolding payload_line given
   payload_no_2 e0 e1 = rw (e0, e1)
 
-  pub payload_no_3 : {x : Datatype} {y : List ℕ} → datatype_named a ≡ some x → bytes_of b ≡ some y → bytes_of c ≡ none → unknown ≡ payload_line a b c
+  pub payload_no_3 : {x : Datatype} {y : List ℕ} → datatype_named a ≡ Some x → bytes_of b ≡ Some y → bytes_of c ≡ None → unknown ≡ payload_line a b c
   unfolding payload_line given
   payload_no_3 e0 e1 e2 = rw (e0, e1, e2)
 
-  pub payload-all : {x : Datatype} {y : List ℕ} {z : List ℕ} → datatype_named a ≡ some x → bytes_of b ≡ some y → bytes_of c ≡ some z → yes_or_no (is_payload x y z) ≡ payload_line a b c
+  pub payload-all : {x : Datatype} {y : List ℕ} {z : List ℕ} → datatype_named a ≡ Some x → bytes_of b ≡ Some y → bytes_of c ≡ Some z → yes_or_no (is_payload x y z) ≡ payload_line a b c
   unfolding payload_line given
   payload-all e0 e1 e2 = rw (e0, e1, e2)
 
 module _ (m : List ℕ) (u : ℕ) (t a f b : List ℕ) where
-  pub added_no_1 : number_of t ≡ none → unknown ≡ append_event m u t a f b
+  pub added_no_1 : number_of t ≡ None → unknown ≡ append_event m u t a f b
   unfolding append_event given
   added_no_1 e0 = rw (e0)
 
-  pub added_no_2 : {x : ℕ} → number_of t ≡ some x → bytes_of a ≡ none → unknown ≡ append_event m u t a f b
+  pub added_no_2 : {x : ℕ} → number_of t ≡ Some x → bytes_of a ≡ None → unknown ≡ append_event m u t a f b
   unfolding append_event given
   added_no_2 e0 e1 = rw (e0, e1)
 
-  pub added_no_3 : {x : ℕ} {y : List ℕ} → number_of t ≡ some x → bytes_of a ≡ some y → flag_of f ≡ none → unknown ≡ append_event m u t a f b
+  pub added_no_3 : {x : ℕ} {y : List ℕ} → number_of t ≡ Some x → bytes_of a ≡ Some y → flag_of f ≡ None → unknown ≡ append_event m u t a f b
   unfolding append_event given
   added_no_3 e0 e1 e2 = rw (e0, e1, e2)
 
-  pub added_no_4 : {x : ℕ} {y : List ℕ} {z : Bool} → number_of t ≡ some x → bytes_of a ≡ some y → flag_of f ≡ some z → bytes_of b ≡ none → unknown ≡ append_event m u t a f b
+  pub added_no_4 : {x : ℕ} {y : List ℕ} {z : Bool} → number_of t ≡ Some x → bytes_of a ≡ Some y → flag_of f ≡ Some z → bytes_of b ≡ None → unknown ≡ append_event m u t a f b
   unfolding append_event given
   added_no_4 e0 e1 e2 e3 = rw (e0, e1, e2, e3)
 
-  pub added-all : {x : ℕ} {y : List ℕ} {z : Bool} {p : List ℕ} → number_of t ≡ some x → bytes_of a ≡ some y → flag_of f ≡ some z → bytes_of b ≡ some p → of_append m u x y z p ≡ append_event m u t a f b
+  pub added-all : {x : ℕ} {y : List ℕ} {z : Bool} {p : List ℕ} → number_of t ≡ Some x → bytes_of a ≡ Some y → flag_of f ≡ Some z → bytes_of b ≡ Some p → of_append m u x y z p ≡ append_event m u t a f b
   unfolding append_event given
   added-all e0 e1 e2 e3 = rw (e0, e1, e2, e3)
 
 module _ (m u t a f b : List ℕ) where
-  pub append_no_1 : bytes_of m ≡ none → unknown ≡ append_line m u t a f b
+  pub append_no_1 : bytes_of m ≡ None → unknown ≡ append_line m u t a f b
   unfolding append_line given
   append_no_1 e0 = rw (e0)
 
-  pub append_no_2 : {x : List ℕ} → bytes_of m ≡ some x → number_of u ≡ none → unknown ≡ append_line m u t a f b
+  pub append_no_2 : {x : List ℕ} → bytes_of m ≡ Some x → number_of u ≡ None → unknown ≡ append_line m u t a f b
   unfolding append_line given
   append_no_2 e0 e1 = rw (e0, e1)
 
-  pub append-all : {x : List ℕ} {y : ℕ} → bytes_of m ≡ some x → number_of u ≡ some y → append_event x y t a f b ≡ append_line m u t a f b
+  pub append-all : {x : List ℕ} {y : ℕ} → bytes_of m ≡ Some x → number_of u ≡ Some y → append_event x y t a f b ≡ append_line m u t a f b
   unfolding append_line given
   append-all e0 e1 = rw (e0, e1)
 

@@ -1,11 +1,11 @@
 -- What the contracts of private functions cite. No promise rests on it.
-use Rattle.std.specs.Prelude.{ℕ, List, [], ◌∷◌, ◌++◌}
+use Rattle.faults.specs.Faults.{fault_number}
+use Rattle.faults.specs.declared.Fault.{Fault}
+use Rattle.std.specs.Prelude.{ℕ, List, [], ◌∷◌, ◌++◌, None, Option, Some}
 use Rattle.text.specs.Ascii.{ascii}
-use Rattle.faults.specs.declared.Told.{Told}
-use Rattle.faults.specs.declared.Told.TheVariants.{Nothing, At}
 use Rattle.judge.specs.Texts.{numbers_text}
 
 -- what is told of a description
-unfoldable pub told_text : Told → List ℕ
-told_text Nothing = ascii "yes"
-told_text (At place n) = ascii "refused " ++ numbers_text n (place ∷ [])
+unfoldable pub told_text : Option Fault → List ℕ
+told_text None = ascii "yes"
+told_text (Some f) = ascii "refused " ++ numbers_text (fault_number f.kind) (f.place ∷ [])

@@ -1,6 +1,5 @@
 -- docs/PROGRAMS.md: how answers are written.
-use Rattle.std.specs.Prelude.{ℕ, List, [], ◌∷◌, ◌++◌, Bool, true, false}
-use Rattle.std.proofs.Math.Option.{Option, none, some}
+use Rattle.std.specs.Prelude.{ℕ, List, [], ◌∷◌, ◌++◌, Bool, true, false, Option, None, Some}
 use Rattle.answer.specs.Answer.{Answer, refused, gives}
 use Rattle.text.specs.Ascii.{ascii}
 use Rattle.lines.specs.Hex.{hex_of}
@@ -14,8 +13,8 @@ unknown = ascii "?"
 
 -- go on with what a word says; where it says nothing, the line has another shape
 unfoldable pub given : {A : Type 0} → Option A → (A → List ℕ) → List ℕ
-given none go = unknown
-given (some a) go = go a
+given None go = unknown
+given (Some a) go = go a
 
 -- "→ `yes` or `no`"
 unfoldable pub yes_or_no : Bool → List ℕ

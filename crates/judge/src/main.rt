@@ -3,7 +3,6 @@
 
 ghost use Rattle.std.specs.Prelude.{◌≤◌, length};
 
-use lines::Input;
 use std::io;
 use std::io::Write;
 use text::Part;
@@ -18,7 +17,7 @@ fn answer_all(to: &mut impl Write, input: &[u8]) -> io::Result<()>
     let mut out = lines::large_buffer();
     let mut at: usize = 0;
     while at < input.len() {
-        let Part::Found { start, end, next } = text::next_part(input, at, b'\n') else {
+        let Some(Part { start, end, next }) = text::next_part(input, at, b'\n') else {
             return Ok(());
         };
         let n = question::answer(&input[start..end], &mut out);
@@ -33,7 +32,7 @@ fn main(rt: HostRuntime) -> io::Result<()> {
     let mut input = [0u8; 65537];
     let mut to = rt.stdout();
     match lines::read_input(&mut rt.stdin(), &mut input)? {
-        Input::Bytes(n) => answer_all(&mut to, &input[0..n]),
-        Input::TooLong => to.write_all(b"too long\n"),
+        Some(n) => answer_all(&mut to, &input[0..n]),
+        None => to.write_all(b"too long\n"),
     }
 }

@@ -5,11 +5,6 @@ ghost use Rattle.lines.specs.Out.{Adds};
 ghost use Rattle.judge.specs.Questions.{of_bytes, of_topic, of_description, of_event, of_append, topic_line, description_line, format_line, event_line, payload_line, two_words, three_words, four_words, seven_words, append_words, event_words, answer_to};
 
 use super::say;
-use lines::flag::FlagRead;
-use lines::hex::Decoded;
-use lines::number::NumberRead;
-use payload::Named;
-use trace::Reading;
 
 // `id`, `utf8`, `trace`
 fn of_bytes(verb: &[u8], b: &[u8], out: &mut [u8]) -> usize
@@ -30,8 +25,10 @@ fn of_bytes(verb: &[u8], b: &[u8], out: &mut [u8]) -> usize
 fn of_topic(domain: &[u8], topic: &[u8], out: &mut [u8]) -> usize
     ensures { Adds out.old 0 (of_topic domain.now topic.now) result out.new }
 {
-    let t = topic::read(domain, topic);
-    say::form(out, topic, t)
+    match topic::read(domain, topic) {
+        Ok(t) => say::form(out, topic, t),
+        Err(r) => say::refused(out, r.number()),
+    }
 }
 
 fn of_description(own: &[u8], s: &[u8], out: &mut [u8]) -> usize
@@ -45,8 +42,8 @@ fn of_event(file: &[u8], i: u64, out: &mut [u8]) -> usize
     ensures { Adds out.old 0 (of_event file.now i) result out.new }
 {
     match trace::read(file, i as usize) {
-        Reading::Refused(k) => say::refused(out, k),
-        Reading::Found(e) => say::event(out, file, e),
+        Err(r) => say::refused(out, r.number()),
+        Ok(e) => say::event(out, file, e),
     }
 }
 
@@ -71,22 +68,23 @@ fn two(line: &[u8], out: &mut [u8]) -> usize
     ensures { Adds out.old 0 (two_words line.now) result out.new }
 {
     let mut mem = lines::large_buffer();
-    let Decoded::Bytes(n) = lines::hex::decode(lines::word::at(line, 1), &mut mem) else {
+    let Some(n) = lines::hex::decode(lines::word::at(line, 1), &mut mem) else {
         return say::unknown(out);
     };
     of_bytes(lines::word::at(line, 0), &mem[0..n], out)
 }
 
+// Kept by hand: this and `description_line` differ in the question alone; one function for both would take it as a closure, with a contract longer than the second function.
 fn topic_line(line: &[u8], out: &mut [u8]) -> usize
     requires { length line.now ≤ 65536 }
     ensures { Adds out.old 0 (topic_line (word_at line.now 1) (word_at line.now 2)) result out.new }
 {
     let mut mem = lines::large_buffer();
-    let Decoded::Bytes(n) = lines::hex::decode(lines::word::at(line, 1), &mut mem) else {
+    let Some(n) = lines::hex::decode(lines::word::at(line, 1), &mut mem) else {
         return say::unknown(out);
     };
     let mut mem2 = lines::large_buffer();
-    let Decoded::Bytes(k) = lines::hex::decode(lines::word::at(line, 2), &mut mem2) else {
+    let Some(k) = lines::hex::decode(lines::word::at(line, 2), &mut mem2) else {
         return say::unknown(out);
     };
     of_topic(&mem[0..n], &mem2[0..k], out)
@@ -97,11 +95,11 @@ fn description_line(line: &[u8], out: &mut [u8]) -> usize
     ensures { Adds out.old 0 (description_line (word_at line.now 1) (word_at line.now 2)) result out.new }
 {
     let mut mem = lines::large_buffer();
-    let Decoded::Bytes(n) = lines::hex::decode(lines::word::at(line, 1), &mut mem) else {
+    let Some(n) = lines::hex::decode(lines::word::at(line, 1), &mut mem) else {
         return say::unknown(out);
     };
     let mut mem2 = lines::large_buffer();
-    let Decoded::Bytes(k) = lines::hex::decode(lines::word::at(line, 2), &mut mem2) else {
+    let Some(k) = lines::hex::decode(lines::word::at(line, 2), &mut mem2) else {
         return say::unknown(out);
     };
     of_description(&mem[0..n], &mem2[0..k], out)
@@ -111,11 +109,11 @@ fn format_line(line: &[u8], out: &mut [u8]) -> usize
     requires { length line.now ≤ 65536 }
     ensures { Adds out.old 0 (format_line (word_at line.now 1) (word_at line.now 2)) result out.new }
 {
-    let Named::Known(d) = payload::read_datatype(lines::word::at(line, 1)) else {
+    let Some(d) = payload::read_datatype(lines::word::at(line, 1)) else {
         return say::unknown(out);
     };
     let mut mem = lines::large_buffer();
-    let Decoded::Bytes(n) = lines::hex::decode(lines::word::at(line, 2), &mut mem) else {
+    let Some(n) = lines::hex::decode(lines::word::at(line, 2), &mut mem) else {
         return say::unknown(out);
     };
     say::yes_or_no(out, payload::is_format(d, &mem[0..n]))
@@ -126,10 +124,10 @@ fn event_line(line: &[u8], out: &mut [u8]) -> usize
     ensures { Adds out.old 0 (event_line (word_at line.now 1) (word_at line.now 2)) result out.new }
 {
     let mut mem = lines::large_buffer();
-    let Decoded::Bytes(n) = lines::hex::decode(lines::word::at(line, 1), &mut mem) else {
+    let Some(n) = lines::hex::decode(lines::word::at(line, 1), &mut mem) else {
         return say::unknown(out);
     };
-    let NumberRead::Value(i) = lines::number::read(lines::word::at(line, 2)) else {
+    let Some(i) = lines::number::read(lines::word::at(line, 2)) else {
         return say::unknown(out);
     };
     of_event(&mem[0..n], i, out)
@@ -160,15 +158,15 @@ fn payload_line(line: &[u8], out: &mut [u8]) -> usize
     requires { length line.now ≤ 65536 }
     ensures { Adds out.old 0 (payload_line (word_at line.now 1) (word_at line.now 2) (word_at line.now 3)) result out.new }
 {
-    let Named::Known(d) = payload::read_datatype(lines::word::at(line, 1)) else {
+    let Some(d) = payload::read_datatype(lines::word::at(line, 1)) else {
         return say::unknown(out);
     };
     let mut mem = lines::large_buffer();
-    let Decoded::Bytes(n) = lines::hex::decode(lines::word::at(line, 2), &mut mem) else {
+    let Some(n) = lines::hex::decode(lines::word::at(line, 2), &mut mem) else {
         return say::unknown(out);
     };
     let mut mem2 = lines::large_buffer();
-    let Decoded::Bytes(k) = lines::hex::decode(lines::word::at(line, 3), &mut mem2) else {
+    let Some(k) = lines::hex::decode(lines::word::at(line, 3), &mut mem2) else {
         return say::unknown(out);
     };
     say::yes_or_no(out, payload::judge(d, &mem[0..n], &mem2[0..k]))
@@ -190,18 +188,18 @@ fn append_event(line: &[u8], out: &mut [u8], buffer: &mut [u8], used: u64) -> us
     requires { length line.now ≤ 65536 }
     ensures { Adds out.old 0 (event_words buffer.old used line.now) result out.new }
 {
-    let NumberRead::Value(time) = lines::number::read(lines::word::at(line, 3)) else {
+    let Some(time) = lines::number::read(lines::word::at(line, 3)) else {
         return say::unknown(out);
     };
     let mut mem2 = lines::large_buffer();
-    let Decoded::Bytes(n) = lines::hex::decode(lines::word::at(line, 4), &mut mem2) else {
+    let Some(n) = lines::hex::decode(lines::word::at(line, 4), &mut mem2) else {
         return say::unknown(out);
     };
-    let FlagRead::Is(retained) = lines::flag::read(lines::word::at(line, 5)) else {
+    let Some(retained) = lines::flag::read(lines::word::at(line, 5)) else {
         return say::unknown(out);
     };
     let mut mem3 = lines::large_buffer();
-    let Decoded::Bytes(k) = lines::hex::decode(lines::word::at(line, 6), &mut mem3) else {
+    let Some(k) = lines::hex::decode(lines::word::at(line, 6), &mut mem3) else {
         return say::unknown(out);
     };
     of_append(buffer, used, time, &mem2[0..n], retained, &mem3[0..k], out)
@@ -212,10 +210,10 @@ fn append_line(line: &[u8], out: &mut [u8]) -> usize
     ensures { Adds out.old 0 (append_words line.now) result out.new }
 {
     let mut mem = lines::large_buffer();
-    let Decoded::Bytes(n) = lines::hex::decode(lines::word::at(line, 1), &mut mem) else {
+    let Some(n) = lines::hex::decode(lines::word::at(line, 1), &mut mem) else {
         return say::unknown(out);
     };
-    let NumberRead::Value(used) = lines::number::read(lines::word::at(line, 2)) else {
+    let Some(used) = lines::number::read(lines::word::at(line, 2)) else {
         return say::unknown(out);
     };
     append_event(line, out, &mut mem[0..n], used)

@@ -1,9 +1,9 @@
 -- A word decoded into a buffer.
-use Prim.Native.Nat.{ℕ, ◌*◌, ◌/◌, ◌≤◌, ◌<◌}
+use Rattle.std.specs.Prelude.{None, Some}
+use Prim.Native.Nat.{ℕ, ◌*◌, ◌/◌, ◌%◌, ◌≤◌, ◌<◌}
 use mathlib.Core.Path.{◌≡◌, refl, sym, ◌∙◌}
 use mathlib.Core.List.{List, [], ◌∷◌}
 use mathlib.Core.Bool.{Bool, true, false, ◌&&◌, and-false, false≢true}
-use mathlib.Core.Option.{none, some}
 use native.Mathlib.Omega.{arith}
 use native.Mathlib.Nat.{zero-add}
 use lib.Dec.{leb}
@@ -12,7 +12,6 @@ use borrow.Author.Tests.{le-leb, lt-leb}
 use Rattle.text.specs.Ascii.{ascii}
 use Rattle.text.specs.Bytes.{eq_bytes}
 use Rattle.little_endian.specs.Bytes.{put}
-use Rattle.lines.specs.declared.hex.Decoded.TheVariants.{Bytes, Nothing}
 use Rattle.lines.specs.Hex.{is_digit, are_pairs, pairs, bytes_of, fitting, counted, in_front, Decodes}
 
 pub pairs-length : (w : List ℕ) → are_pairs w ≡ true → length w ≡ 2 * length (pairs w)
@@ -26,36 +25,43 @@ pairs-length (a ∷ (b ∷ s)) e = let h = pairs-length s (last (is_digit a) (is
     last true false z q = absurd (false≢true q)
     last false y z q = absurd (false≢true q)
 
+pub odd-pairs : (w : List ℕ) → (length w % 2 ≡ 0 → ⊥) → false ≡ are_pairs w
+odd-pairs w n = pick (are_pairs w) refl
+  where
+    pick : (b : Bool) → are_pairs w ≡ b → false ≡ are_pairs w
+    pick true e = absurd (n (omega (arith, pairs-length w e)))
+    pick false e = sym e
+
 module _ (w d : List ℕ) where
-  pub decode-none : true ≡ eq_bytes w (ascii "-") → Decodes w d (Bytes 0) d
+  pub decode-none : true ≡ eq_bytes w (ascii "-") → Decodes w d (Some 0) d
   unfolding bytes_of fitting counted in_front
   decode-none e = record { answer = rw (← e, le-leb 0 (length d) (omega arith)); memory = rw (← e, le-leb 0 (length d) (omega arith)) }
 
-  refuse : bytes_of w ≡ none → Decodes w d Nothing d
+  refuse : bytes_of w ≡ None → Decodes w d None d
   unfolding fitting counted in_front
   refuse e = record { answer = rw e; memory = rw e }
 
   module _ (n : false ≡ eq_bytes w (ascii "-")) where
-    empty-none : length w ≡ 0 → bytes_of w ≡ none
+    empty-none : length w ≡ 0 → bytes_of w ≡ None
     unfolding bytes_of
     empty-none h = rw (← n, h)
 
-    pub decode_empty : length w ≡ 0 → Decodes w d Nothing d
+    pub decode_empty : length w ≡ 0 → Decodes w d None d
     decode_empty h = refuse (empty-none h)
 
-    odd-none : false ≡ are_pairs w → bytes_of w ≡ none
+    odd-none : false ≡ are_pairs w → bytes_of w ≡ None
     unfolding bytes_of
     odd-none h = rw (← n, ← h, and-false (leb 1 (length w)))
 
-    pub decode_odd : false ≡ are_pairs w → Decodes w d Nothing d
+    pub decode_odd : false ≡ are_pairs w → Decodes w d None d
     decode_odd h = refuse (odd-none h)
 
     module _ (f : (length w ≡ 0 → ⊥)) (h : true ≡ are_pairs w) where
-      is_some : bytes_of w ≡ some (pairs w)
+      is_some : bytes_of w ≡ Some (pairs w)
       unfolding bytes_of
       is_some = rw (← n, ← h, le-leb 1 (length w) (omega arith))
 
-      pub decode-full : length d < length w / 2 → Decodes w d Nothing d
+      pub decode-full : length d < length w / 2 → Decodes w d None d
       unfolding fitting counted in_front
       decode-full l =
           let g : length d < length (pairs w) = omega (arith, pairs-length w (sym h)) in
@@ -64,7 +70,7 @@ module _ (w d : List ℕ) where
       pub decode-fits : length w / 2 ≤ length d → length (pairs w) ≤ length d
       decode-fits l = omega (arith, pairs-length w (sym h))
 
-      pub decode-all : {d' : List ℕ} → length w / 2 ≤ length d → d' ≡ put d 0 (pairs w) → Decodes w d (Bytes (length w / 2)) d'
+      pub decode-all : {d' : List ℕ} → length w / 2 ≤ length d → d' ≡ put d 0 (pairs w) → Decodes w d (Some (length w / 2)) d'
       unfolding fitting counted in_front put
       decode-all l e =
           let g : length (pairs w) ≤ length d = decode-fits l in

@@ -1,15 +1,16 @@
 -- Pairs of digits.
-use Prim.Native.Nat.{ℕ, suc, ◌+◌, ◌-◌, ◌*◌, ◌≤◌, ◌<◌}
-use mathlib.Core.Path.{◌≡◌, refl, sym, ap, ◌∙◌}
+use Rattle.std.specs.List.{list_all}
+use Prim.Native.Nat.{ℕ, suc, ◌+◌, ◌-◌, ◌*◌, ◌%◌, ◌≤◌, ◌<◌}
+use mathlib.Core.Path.{◌≡◌, refl, sym, ap, ◌∙◌, subst}
 use mathlib.Core.List.{List, [], ◌∷◌}
-use mathlib.Core.Bool.{Bool, true, false, ◌&&◌, and-false, false≢true}
+use mathlib.Core.Bool.{Bool, true, false, ◌&&◌}
 use native.Mathlib.Omega.{arith}
 use native.Mathlib.Numerals.{add-one}
 use lib.Dec.{leb}
 use lib.ListN.{length, get_or, drop, drop_of_length-le, set, length-set}
 use lib.Seq.{drop-cons}
-use borrow.Author.Tests.{le-leb, lt-leb, leb-true, leb-false}
-use Rattle.text.proofs.Bytes.{and_both}
+use borrow.Author.Tests.{le-leb, lt-leb, leb-true}
+use Rattle.text.proofs.Bytes.{and_both, at_most}
 use Rattle.little_endian.specs.Bytes.{put}
 use Rattle.little_endian.proofs.Put.{put-none}
 use Rattle.lines.specs.Hex.{value_of, is_digit, are_pairs, pairs}
@@ -50,33 +51,55 @@ drop-two w i h =
 
 -- ---- judging
 
-abbrev pub Judged : List ℕ → ℕ → Type 0
-Judged w i = are_pairs (drop i w) ≡ are_pairs w
-
 module _ (w : List ℕ) (i : ℕ) where
   step : i + 1 < length w → are_pairs (drop i w) ≡ (leb (value_of (get_or w i 0)) 15 && (leb (value_of (get_or w (i + 1) 0)) 15 && are_pairs (drop (i + 2) w)))
   unfolding are_pairs is_digit
   step h = rw (drop-two w i h)
 
-  pub judged_odd : i < length w → length w ≤ i + 1 → Judged w i → false ≡ are_pairs w
-  unfolding are_pairs
-  judged_odd h k j = rw (drop-one w i h k) at j
+-- ---- digits, alone and all
 
-  pub judged-end : length w ≤ i → Judged w i → true ≡ are_pairs w
-  unfolding are_pairs
-  judged-end h j = rw (drop_of_length-le w h) at j
+module _ (b : ℕ) where
+  pub is_digit-number : 48 ≤ b → b ≤ 57 → true ≡ is_digit b
+  unfolding is_digit
+  is_digit-number h k = rw (← value-digit b h k) (sym (le-leb (b - 48) 15 (omega arith)))
 
-  module _ (h : i + 1 < length w) (j : Judged w i) where
-    pub judged-first : {v : ℕ} → v ≡ value_of (get_or w i 0) → 15 < v → false ≡ are_pairs w
-    judged-first {v} e g = rw (step h, ← e, lt-leb v 15 g) at j
+  pub is_digit-letter : 97 ≤ b → b ≤ 102 → true ≡ is_digit b
+  unfolding is_digit
+  is_digit-letter h k = rw (← value-letter b h k) (sym (le-leb (b - 87) 15 (omega arith)))
 
-    pub judged-second : {v : ℕ} → v ≡ value_of (get_or w (i + 1) 0) → 15 < v → false ≡ are_pairs w
-    judged-second {v} e g = sym (rw (← e, lt-leb v 15 g) (and-false (leb (value_of (get_or w i 0)) 15))) ∙ sym (step h) ∙ j
+  none : 16 ≡ value_of b → false ≡ is_digit b
+  unfolding is_digit
+  none e = rw (← e)
 
-    pub judged-next : {v u : ℕ} → v ≡ value_of (get_or w i 0) → v ≤ 15 → u ≡ value_of (get_or w (i + 1) 0) → u ≤ 15 → Judged w (i + 2)
-    judged-next {v} {u} e g f k = sym (rw (← e, ← f, le-leb v 15 g, le-leb u 15 k)) ∙ sym (step h) ∙ j
+  pub is_digit-none : (48 ≤ b → b ≤ 57 → ⊥) → (97 ≤ b → b ≤ 102 → ⊥) → false ≡ is_digit b
+  is_digit-none n m = at_most b 47
+      (λ h. none (value_low b (omega arith)))
+      (λ h. at_most b 57 (λ k. absurd (n (omega arith) k))
+      (λ k. at_most b 96 (λ l. none (value_middle b k (omega arith)))
+      (λ l. at_most b 102 (λ x. absurd (m (omega arith) x)) (λ x. none (value-high b x)))))
+
+pub all-pairs : (w : List ℕ) → length w % 2 ≡ 0 → list_all is_digit w ≡ are_pairs w
+unfolding are_pairs
+all-pairs [] e = refl
+all-pairs (a ∷ []) e = absurd (omega arith)
+all-pairs (a ∷ (b ∷ s)) e = ap (λ (r : Bool). is_digit a && (is_digit b && r)) (all-pairs s (omega arith))
 
 -- ---- filling
+
+-- a digit is one of two ranges
+pub digit-first : (b : ℕ) → is_digit b ≡ true → 48 ≤ b
+unfolding is_digit
+digit-first b e =
+    let v : value_of b ≤ 15 = leb-true (value_of b) 15 e in
+    at_most b 47 (λ h. absurd (omega (arith, value_low b (omega arith)))) (λ h. omega arith)
+
+pub digit-second : (b : ℕ) → is_digit b ≡ true → 57 < b → (97 ≤ b) × (b ≤ 102)
+unfolding is_digit
+digit-second b e l =
+    let v : value_of b ≤ 15 = leb-true (value_of b) 15 e in (
+      at_most b 96 (λ h. absurd (omega (arith, value_middle b l (omega arith)))) (λ h. omega arith),
+      at_most b 102 (λ h. h) (λ h. absurd (omega (arith, value-high b h))),
+    )
 
 pub record Filled (w d₀ d : List ℕ) (i k : ℕ) : Type 0 where
   pub within : i ≤ length w
@@ -85,34 +108,28 @@ pub record Filled (w d₀ d : List ℕ) (i k : ℕ) : Type 0 where
   pub fits : k + length (pairs (drop i w)) ≤ length d
   pub rest : put d k (pairs (drop i w)) ≡ put d₀ 0 (pairs w)
 
-pub fill_start : (w d : List ℕ) → are_pairs w ≡ true → length (pairs w) ≤ length d → Filled w d d 0 0
-fill_start w d g h = record { within = omega arith; good = g; size = refl; fits = omega arith; rest = refl }
+pub filled_at : {w d₀ d : List ℕ} {i j k : ℕ} → Filled w d₀ d i k → i ≡ j → Filled w d₀ d j k
+filled_at {w} {d₀} {d} {k = k} p e = subst (λ (x : ℕ). Filled w d₀ d x k) e p
 
 module _ (w d₀ d : List ℕ) (i k : ℕ) (f : Filled w d₀ d i k) where
   pub fill_end : length w ≤ i → d ≡ put d₀ 0 (pairs w)
   unfolding pairs
   fill_end h = put-none d k ∙ rw (drop_of_length-le w h) at f.rest
 
-  pub fill-pair : i < length w → i + 1 < length w
-  unfolding are_pairs
-  fill-pair h = pick (leb (length w) (i + 1)) refl
-    where
-      pick : (b : Bool) → leb (length w) (i + 1) ≡ b → i + 1 < length w
-      pick true e = absurd (false≢true (rw (drop-one w i h (leb-true (length w) (i + 1) e)) at f.good))
-      pick false e = omega (arith, leb-false (length w) (i + 1) e)
-
   module _ (h : i + 1 < length w) where
     digits : (leb (value_of (get_or w i 0)) 15 ≡ true) × ((leb (value_of (get_or w (i + 1) 0)) 15 && are_pairs (drop (i + 2) w)) ≡ true)
     digits = and_both (leb (value_of (get_or w i 0)) 15) (leb (value_of (get_or w (i + 1) 0)) 15 && are_pairs (drop (i + 2) w)) (sym (step w i h) ∙ f.good)
 
-    pub fill-first : value_of (get_or w i 0) ≤ 15
-    fill-first = leb-true _ 15 digits.0
-
     others : (leb (value_of (get_or w (i + 1) 0)) 15 ≡ true) × (are_pairs (drop (i + 2) w) ≡ true)
     others = and_both (leb (value_of (get_or w (i + 1) 0)) 15) (are_pairs (drop (i + 2) w)) digits.1
 
-    pub fill-second : value_of (get_or w (i + 1) 0) ≤ 15
-    fill-second = leb-true _ 15 others.0
+    pub first-digit : is_digit (get_or w i 0) ≡ true
+    unfolding is_digit
+    first-digit = digits.0
+
+    pub second-digit : is_digit (get_or w (i + 1) 0) ≡ true
+    unfolding is_digit
+    second-digit = others.0
 
     more : pairs (drop i w) ≡ (value_of (get_or w i 0) * 16 + value_of (get_or w (i + 1) 0)) ∷ pairs (drop (i + 2) w)
     unfolding pairs

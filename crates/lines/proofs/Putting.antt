@@ -1,21 +1,16 @@
 -- Text put into a buffer.
-use Prim.Native.Nat.{ℕ, ◌+◌, ◌-◌, ◌≤◌, ◌<◌}
+use Prim.Native.Nat.{ℕ, ◌+◌, ◌≤◌, ◌<◌}
 use mathlib.Core.Path.{◌≡◌, sym, ◌∙◌}
-use mathlib.Core.List.{List, [], ◌∷◌}
+use mathlib.Core.List.{List, [], ◌∷◌, ◌++◌}
 use native.Mathlib.Omega.{arith}
 use lib.Dec.{leb}
-use Rattle.text.proofs.Bytes.{at_most}
-use lib.ListN.{length, set, length-set}
+use lib.ListN.{length, take, drop, set, length-set}
+use lib.Seq.{drop-drop}
 use borrow.Author.Tests.{le-leb, lt-leb, leb-true, leb-false}
 use mathlib.Core.Bool.{Bool, true, false}
 use Rattle.little_endian.specs.Bytes.{put}
 use Rattle.little_endian.proofs.Put.{put_one, put_then}
 use Rattle.lines.specs.Out.{Puts, written, behind}
-
-pub room-left : (at n l : ℕ) → at ≤ l → leb n (l - at) ≡ leb (at + n) l
-room-left at n l h = at_most n (l - at)
-    (λ k. rw (le-leb n (l - at) k, le-leb (at + n) l (omega arith)))
-    (λ k. rw (lt-leb n (l - at) k, lt-leb (at + n) l (omega arith)))
 
 module _ (d : List ℕ) (at : ℕ) (t : List ℕ) where
   pub room : at + length t ≤ length d → Puts d at t (at + length t) (put d at t)
@@ -35,6 +30,11 @@ module _ (d : List ℕ) (at : ℕ) (t : List ℕ) where
 
   pub put_yes : {d' : List ℕ} → at + length t ≤ length d → d' ≡ put d at t → Puts d at t (at + length t) d'
   put_yes h q = rw q (room h)
+
+-- a part of a list, replaced
+pub part-put : (d b s : List ℕ) (at n : ℕ) → b ≡ s → length s ≡ n → take at d ++ (b ++ drop n (drop at d)) ≡ put d at s
+unfolding put
+part-put d b s at n e l = rw (e, l, drop-drop)
 
 -- a store, and the rest behind it
 pub store_then : (d : List ℕ) (k x : ℕ) (t : List ℕ) → k < length d → put (set d k x) (k + 1) t ≡ put d k (x ∷ t)

@@ -1,9 +1,9 @@
 -- A number that is written is read back.
+use Rattle.std.specs.Prelude.{Some}
 use Prim.Native.Nat.{ℕ, zero, suc, ◌+◌, ◌-◌, ◌*◌, ◌/◌, ◌%◌, ◌^◌, ◌≤◌, ◌<◌}
 use mathlib.Core.Path.{◌≡◌, refl}
 use mathlib.Core.List.{List, [], ◌∷◌, ◌++◌}
 use mathlib.Core.Bool.{Bool, true, false, ◌&&◌}
-use mathlib.Core.Option.{some}
 use native.Mathlib.Omega.{arith}
 use native.Mathlib.Nat.{pow-suc}
 use lib.ListN.{length, length-append}
@@ -58,10 +58,10 @@ reads (suc k) n h = at_most n 9
     (λ l. small (suc k) n (omega arith))
     (λ l. longer k n l (reads k (n / 10) (let e = pow-suc 10 (suc k) in omega arith)))
 
-read_number : (s : List ℕ) (n : ℕ) → n < 2 ^ 64 → Reads s n → number_of s ≡ some n
+read_number : (s : List ℕ) (n : ℕ) → n < 2 ^ 64 → Reads s n → number_of s ≡ Some n
 unfolding number_of
 read_number s n h r = rw (le-leb 1 (length s) r.some, r.digits, r.value, lt-ltb n (2 ^ 64) h)
 
-pub number-back : (n : ℕ) → n < 2 ^ 64 → number_of (decimal_text n) ≡ some n
+pub number-back : (n : ℕ) → n < 2 ^ 64 → number_of (decimal_text n) ≡ Some n
 unfolding decimal_text
 number-back n h = read_number (decimal_in 20 n) n h (reads 19 n (omega arith))

@@ -1,9 +1,9 @@
 -- What is written is read back.
+use Rattle.std.specs.Prelude.{None, Some}
 use Prim.Native.Nat.{ℕ, ◌+◌, ◌-◌, ◌*◌, ◌/◌, ◌%◌, ◌≤◌, ◌<◌}
 use mathlib.Core.Path.{◌≡◌, refl, sym}
 use mathlib.Core.List.{List, [], ◌∷◌}
 use mathlib.Core.Bool.{Bool, true, false, ◌&&◌, and-false, false≢true}
-use mathlib.Core.Option.{none, some}
 use native.Mathlib.Omega.{arith}
 use lib.Dec.{ltb, leb, eqb}
 use lib.ListN.{length}
@@ -67,13 +67,13 @@ minus : (b : ℕ) (s : List ℕ) → eq_bytes (digits_of (b ∷ s)) (ascii "-") 
 unfolding digits_of
 minus b s = no_minus (digit_of (b / 16)) (digit_of (b % 16)) (digits_of s)
 
-some_back : (b : ℕ) (s : List ℕ) → every Byte (b ∷ s) ≡ true → bytes_of (digits_of (b ∷ s)) ≡ some (b ∷ s)
+some_back : (b : ℕ) (s : List ℕ) → every Byte (b ∷ s) ≡ true → bytes_of (digits_of (b ∷ s)) ≡ Some (b ∷ s)
 unfolding bytes_of
 some_back b s h =
     let l : leb 1 (length (digits_of (b ∷ s))) ≡ true = le-leb 1 (length (digits_of (b ∷ s))) (omega (arith, digits-length (b ∷ s))) in
     rw (minus b s, l, are-pairs (b ∷ s) h, pairs-back (b ∷ s) h)
 
-pub hex-back : (s : List ℕ) → every Byte s ≡ true → bytes_of (hex_of s) ≡ some s
+pub hex-back : (s : List ℕ) → every Byte s ≡ true → bytes_of (hex_of s) ≡ Some s
 unfolding hex_of bytes_of eq_bytes
 hex-back [] h = refl
 hex-back (b ∷ s) h = some_back b s h
@@ -99,7 +99,7 @@ filled_hex [] l h = absurd (omega arith)
 filled_hex (a ∷ []) l h = absurd (false≢true h)
 filled_hex (a ∷ (b ∷ t)) l h = sym (digits_of-pairs (a ∷ (b ∷ t)) h)
 
-pub hex-word : (w s : List ℕ) → bytes_of w ≡ some s → w ≡ hex_of s
+pub hex-word : (w s : List ℕ) → bytes_of w ≡ Some s → w ≡ hex_of s
 unfolding bytes_of hex_of
 hex-word w s e = both (eq_bytes w (ascii "-"))
     (λ p. let n : [] ≡ s = inside [] s (rw p at e) in rw (← n) (eq_bytes-true w (ascii "-") p))
@@ -110,8 +110,8 @@ hex-word w s e = both (eq_bytes w (ascii "-"))
     rw (← n) (filled_hex w (leb-true 1 (length w) r.0) r.1))
     (λ q. absurd (outside s (rw (p, q) at e))))
   where
-    inside : (a b : List ℕ) → some a ≡ some b → a ≡ b
+    inside : (a b : List ℕ) → Some a ≡ Some b → a ≡ b
     inside a b q = cc
 
-    outside : (b : List ℕ) → none ≡ some b → ⊥
+    outside : (b : List ℕ) → None ≡ Some b → ⊥
     outside b q = let z : ◌≡◌ {A = ℕ} 0 1 = cc in omega arith

@@ -1,6 +1,6 @@
 -- Bytes written as hex.
 use Prim.Native.Nat.{ℕ, ◌+◌, ◌*◌, ◌/◌, ◌%◌, ◌≤◌, ◌<◌}
-use mathlib.Core.Path.{◌≡◌, refl, ◌∙◌}
+use mathlib.Core.Path.{◌≡◌, refl, ◌∙◌, subst}
 use mathlib.Core.List.{List, [], ◌∷◌}
 use native.Mathlib.Omega.{arith}
 use native.Mathlib.Numerals.{add-one}
@@ -36,8 +36,8 @@ pub record Spelled (d₀ : List ℕ) (at : ℕ) (s d : List ℕ) (i k : ℕ) : T
   pub size : length d ≡ length d₀
   pub rest : put d k (digits_of (drop i s)) ≡ put d₀ at (digits_of s)
 
-pub spell-start : (d : List ℕ) (at : ℕ) (s : List ℕ) → Spelled d at s d 0 at
-spell-start d at s = record { within = omega arith; place = omega arith; size = refl; rest = refl }
+pub spelled_at : {d₀ s d : List ℕ} {at i j k : ℕ} → Spelled d₀ at s d i j → j ≡ k → Spelled d₀ at s d i k
+spelled_at {d₀} {s} {d} {at} {i} p e = subst (λ (x : ℕ). Spelled d₀ at s d i x) e p
 
 module _ (d₀ : List ℕ) (at : ℕ) (s d : List ℕ) (i k : ℕ) (p : Spelled d₀ at s d i k) where
   pub spell-end : length s ≤ i → d ≡ put d₀ at (digits_of s)

@@ -1,11 +1,8 @@
 -- docs/PROGRAMS.md: "bytes are lowercase hex, `-` stands for none".
-use Rattle.std.specs.Prelude.{ℕ, ◌+◌, ◌-◌, ◌*◌, ◌/◌, ◌%◌, ◌≡◌, List, [], ◌∷◌, ◌++◌, Bool, true, false, cond, ◌&&◌, ltb, leb, length, drop}
-use Rattle.std.proofs.Math.Option.{Option, none, some}
+use Rattle.std.specs.Prelude.{ℕ, ◌+◌, ◌-◌, ◌*◌, ◌/◌, ◌%◌, ◌≡◌, List, [], ◌∷◌, ◌++◌, Bool, true, false, cond, ◌&&◌, ltb, leb, length, drop, Option, None, Some}
 use Rattle.abnf.specs.Accepts.{in_range}
 use Rattle.text.specs.Ascii.{ascii}
 use Rattle.text.specs.Bytes.{eq_bytes}
-use Rattle.lines.specs.declared.hex.Decoded.{Decoded}
-use Rattle.lines.specs.declared.hex.Decoded.TheVariants.{Bytes, Nothing}
 
 -- Writing: `0` to `9`, then `a` to `f`; two digits for each byte, the higher first.
 unfoldable pub digit_of : ℕ → ℕ
@@ -39,22 +36,22 @@ pairs (a ∷ (b ∷ s)) = (value_of a * 16 + value_of b) ∷ pairs s
 
 -- the bytes that a word writes, if it writes any or is `-`
 unfoldable pub bytes_of : List ℕ → Option (List ℕ)
-bytes_of w = cond (eq_bytes w (ascii "-")) (some []) (cond (leb 1 (length w) && are_pairs w) (some (pairs w)) none)
+bytes_of w = cond (eq_bytes w (ascii "-")) (Some []) (cond (leb 1 (length w) && are_pairs w) (Some (pairs w)) None)
 
 -- Decoding into a buffer: the bytes that a word writes, if they fit, ..
 unfoldable pub fitting : ℕ → Option (List ℕ) → Option (List ℕ)
-fitting room none = none
-fitting room (some b) = cond (leb (length b) room) (some b) none
+fitting room None = None
+fitting room (Some b) = cond (leb (length b) room) (Some b) None
 
 -- .. are counted by the answer, and stand in front in the buffer d; where there are none it stays
-unfoldable pub counted : Option (List ℕ) → Decoded
-counted none = Nothing
-counted (some b) = Bytes (length b)
+unfoldable pub counted : Option (List ℕ) → Option ℕ
+counted None = None
+counted (Some b) = Some (length b)
 
 unfoldable pub in_front : List ℕ → Option (List ℕ) → List ℕ
-in_front d none = d
-in_front d (some b) = b ++ drop (length b) d
+in_front d None = d
+in_front d (Some b) = b ++ drop (length b) d
 
-pub record Decodes (w d : List ℕ) (r : Decoded) (d' : List ℕ) : Type 0 where
+pub record Decodes (w d : List ℕ) (r : Option ℕ) (d' : List ℕ) : Type 0 where
   pub answer : r ≡ counted (fitting (length d) (bytes_of w))
   pub memory : d' ≡ in_front d (fitting (length d) (bytes_of w))

@@ -1,19 +1,11 @@
 -- docs/PROGRAMS.md: "Numbers are decimal digits, of a value below 2^64."
-use Rattle.std.specs.Prelude.{ℕ, zero, suc, ◌+◌, ◌/◌, ◌%◌, ◌^◌, List, [], ◌∷◌, ◌++◌, cond, ◌&&◌, ltb, leb, length}
-use Rattle.std.proofs.Math.Option.{Option, none, some}
+use Rattle.std.specs.Prelude.{ℕ, zero, suc, ◌+◌, ◌/◌, ◌%◌, ◌^◌, List, [], ◌∷◌, ◌++◌, cond, ◌&&◌, ltb, leb, length, Option, None, Some}
 use Rattle.text.specs.Bytes.{every}
-use Rattle.lines.specs.declared.number.NumberRead.{NumberRead}
-use Rattle.lines.specs.declared.number.NumberRead.TheVariants.{Value, Nothing}
 use Rattle.numbers.specs.Digits.{is_digit, number}
 
 -- Reading: digits alone, one at least, that write a number below 2^64.
 unfoldable pub number_of : List ℕ → Option ℕ
-number_of w = cond (leb 1 (length w) && (every is_digit w && ltb (number w) (2 ^ 64))) (some (number w)) none
-
--- what the answer of `read` says
-abbrev pub number_read : NumberRead → Option ℕ
-number_read (Value n) = some n
-number_read Nothing = none
+number_of w = cond (leb 1 (length w) && (every is_digit w && ltb (number w) (2 ^ 64))) (Some (number w)) None
 
 -- Writing: the digits of a number below 10^k, the highest first, with no leading zero.
 unfoldable pub decimal_in : ℕ → ℕ → List ℕ

@@ -1,7 +1,5 @@
 -- Text that is put into a lent buffer, piece after piece.
-use Rattle.std.specs.Prelude.{ℕ, ◌+◌, ◌≤◌, ◌<◌, ◌≡◌, List, ◌++◌, cond, leb, length, take, drop}
-use Rattle.lines.specs.declared.Input.{Input}
-use Rattle.lines.specs.declared.Input.TheVariants.{Bytes, TooLong}
+use Rattle.std.specs.Prelude.{ℕ, ◌+◌, ◌≤◌, ◌<◌, ◌≡◌, List, ◌++◌, cond, leb, length, take, drop, None, Option, Some}
 
 -- the buffer d with the text t from a place on, where there is room for it; else d as it is
 unfoldable pub written : List ℕ → ℕ → List ℕ → List ℕ
@@ -17,9 +15,9 @@ pub record Puts (d : List ℕ) (at : ℕ) (t : List ℕ) (r : ℕ) (d' : List �
   pub memory : d' ≡ written d at t
 
 -- input that was taken leaves a byte of the buffer over
-abbrev pub FitsBuffer : Input → List ℕ → Type 0
-FitsBuffer (Bytes n) d = n < length d
-FitsBuffer TooLong d = Unit {0}
+abbrev pub FitsBuffer : Option ℕ → List ℕ → Type 0
+FitsBuffer (Some n) d = n < length d
+FitsBuffer None d = Unit {0}
 
 -- a text stands in front in a buffer, up to a place
 pub record Stands (d : List ℕ) (at : ℕ) (s : List ℕ) : Type 0 where

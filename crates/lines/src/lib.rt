@@ -15,13 +15,6 @@ ghost use Rattle.lines.specs.Streams.{HoldsAll, front};
 use std::io;
 use std::io::{Read, Write};
 
-// How much of a lent buffer the input fills, or that it may not.
-#[derive(Clone, Copy)]
-pub enum Input {
-    Bytes(usize),
-    TooLong,
-}
-
 // 65,536 zeros, to be lent.
 pub fn large_buffer() -> [u8; 65536]
     ensures { 65536 ≡ length result }
@@ -30,6 +23,7 @@ pub fn large_buffer() -> [u8; 65536]
 }
 
 // Reads until the buffer is full or the stream ends, and answers how many bytes stand in front.
+// Kept by hand: `read_exact` refuses a shorter stream, `read_to_end` needs the heap, and `io::copy` into a lent slice promises nothing of its bytes.
 fn fill<R: Read>(from: &mut R, buf: &mut [u8]) -> io::Result<usize>
     ensures within { IfOk result (λ n. n ≤ length buf.new) }
     ensures bytes { IfOk result (λ n. Consumes (R.remaining from.old) (R.remaining from.new) (take n buf.new)) }
@@ -46,17 +40,13 @@ fn fill<R: Read>(from: &mut R, buf: &mut [u8]) -> io::Result<usize>
     Ok(done)
 }
 
-// Reads a stream to its end. The buffer is a byte longer than the longest input that is taken.
-pub fn read_input<R: Read>(from: &mut R, buf: &mut [u8]) -> io::Result<Input>
+// Reads a stream to its end, and answers how much of the buffer it fills; `None` is of input that is too long. The buffer is a byte longer than the longest that is taken.
+pub fn read_input<R: Read>(from: &mut R, buf: &mut [u8]) -> io::Result<Option<usize>>
     ensures fits { IfOk result (λ i. FitsBuffer i buf.new) }
     ensures all { IfOk result (λ i. HoldsAll (R.remaining from.old) i buf.new) }
 {
     let n = fill(from, buf)?;
-    if n < buf.len() {
-        Ok(Input::Bytes(n))
-    } else {
-        Ok(Input::TooLong)
-    }
+    if n < buf.len() { Ok(Some(n)) } else { Ok(None) }
 }
 
 // Writes the first n bytes to a stream, if there are as many, and answers whether there are.

@@ -1,27 +1,12 @@
 // Text that is put into a lent buffer, piece after piece.
 ghost use Rattle.std.specs.Prelude.{◌≡◌, ◌+◌, ◌≤◌, leb, length};
 ghost use Rattle.lines.specs.Out.{Puts};
-ghost use Rattle.little_endian.specs.Bytes.{put as over};
 
 // Whether n bytes fit from `at` on.
 pub fn has_room(out: &[u8], at: usize, n: usize) -> bool
     ensures { result ≡ leb (at + n) (length out.now) }
 {
-    if at > out.len() {
-        return false;
-    }
-    n <= out.len() - at
-}
-
-fn copy(out: &mut [u8], at: usize, s: &[u8])
-    requires { at + length s.now ≤ length out.old }
-    ensures { out.new ≡ over out.old at s.now }
-{
-    let mut i: usize = 0;
-    while i < s.len() {
-        out[at + i] = s[i];
-        i += 1;
-    }
+    at <= out.len() && n <= out.len() - at
 }
 
 // Puts bytes from `at` on, and answers where the next go. Where there is no room nothing is put, and the answer is past the end, where nothing has room.
@@ -31,6 +16,7 @@ pub fn put(out: &mut [u8], at: usize, s: &[u8]) -> usize
     if !has_room(out, at, s.len()) {
         return out.len() + 1;
     }
-    copy(out, at, s);
-    at + s.len()
+    let end = at + s.len();
+    out[at..end].copy_from_slice(s);
+    end
 }

@@ -1,8 +1,8 @@
 -- What a change of memory makes of the table.
+use Rattle.std.specs.Prelude.{Option}
 use Prim.Native.Nat.{ℕ, suc, ◌≤◌, ◌<◌}
 use mathlib.Core.Path.{◌≡◌, ap, ◌∙◌}
 use mathlib.Core.List.{List, [], map}
-use mathlib.Core.Option.{Option}
 use lib.ListN.{length, set}
 use Rattle.little_endian.specs.Bytes.{put}
 use Rattle.memory.specs.Bytes.{insert_at, remove_at}

@@ -1,9 +1,9 @@
 -- Changes of sound memory by rank: what is committed, that it can be, and what it makes of the table.
+use Rattle.std.specs.Prelude.{Option, Some}
 use Prim.Native.Nat.{ℕ, ◌+◌, ◌≤◌, ◌<◌}
 use native.Mathlib.Omega.{arith}
 use mathlib.Core.Path.{◌≡◌, refl, sym, ap, ap₂, ◌∙◌}
 use mathlib.Core.List.{List, []}
-use mathlib.Core.Option.{Option, some}
 use lib.ListN.{length, get_or, set}
 use Rattle.little_endian.specs.Bytes.{put}
 use Rattle.memory.specs.Bytes.{insert_at, remove_at}
@@ -29,7 +29,7 @@ unfolding opening_of
 devices-most m = memory.capacity_is m
 
 -- sound memory with n devices, and a head that says how many there are then and the last time
-module _ (m : List ℕ) (s : Sound m) (n : ℕ) (e : n ≡ length (means m).now.devices) (head : List ℕ) (time : ℕ) (told : last_of head ≡ some time) where
+module _ (m : List ℕ) (s : Sound m) (n : ℕ) (e : n ≡ length (means m).now.devices) (head : List ℕ) (time : ℕ) (told : last_of head ≡ Some time) where
   numbered : number (state m).now ≡ n
   numbered = omega (arith, counted m s.memory)
 
@@ -39,7 +39,7 @@ module _ (m : List ℕ) (s : Sound m) (n : ℕ) (e : n ≡ length (means m).now.
   few : n ≤ capacity m
   few = omega (arith, numbered, within, memory.rooms-length m s.memory)
 
-  finish : (c : Change) (a b : List Device) → c.head ≡ head → a ≡ b → with a (last_of c.head) ≡ with b (some time)
+  finish : (c : Change) (a b : List Device) → c.head ≡ head → a ≡ b → with a (last_of c.head) ≡ with b (Some time)
   finish c a b h k = ap₂ (λ (l : List Device) (t : Option ℕ). with l t) k (ap last_of h ∙ told)
 
   -- the device of a rank gets bytes
@@ -47,7 +47,7 @@ module _ (m : List ℕ) (s : Sound m) (n : ℕ) (e : n ≡ length (means m).now.
     pub patch-able : AbleTo m (change_of i i offset bytes head)
     patch-able = memory.able m i i (get_or head 0 0) offset (length bytes) s.memory (record { starts = omega (arith, few); ends = omega (arith, few); counted = omega (arith, few); inside = inside })
 
-    pub patched : (f : Device → Device) → Makes offset bytes f → table_of (change (change_of i i offset bytes head) (state m).now) ≡ with (change_at i f (means m).now.devices) (some time)
+    pub patched : (f : Device → Device) → Makes offset bytes f → table_of (change (change_of i i offset bytes head) (state m).now) ≡ with (change_at i f (means m).now.devices) (Some time)
     unfolding means
     patched f makes =
         changes.patched (state m).now (change_of i i offset bytes head) within refl (same ∙ sym numbered) (omega (arith, numbered))
@@ -59,7 +59,7 @@ module _ (m : List ℕ) (s : Sound m) (n : ℕ) (e : n ≡ length (means m).now.
     pub create-able : AbleTo m (change_of n place 0 bytes head)
     create-able = memory.able m n place (get_or head 0 0) 0 (length bytes) s.memory (record { starts = omega (arith, devices-most m); ends = omega (arith, devices-most m); counted = omega (arith, devices-most m); inside = omega arith })
 
-    pub created : (v : Device) → Makes 0 bytes (λ _. v) → table_of (change (change_of n place 0 bytes head) (state m).now) ≡ with (insert_at place v (means m).now.devices) (some time)
+    pub created : (v : Device) → Makes 0 bytes (λ _. v) → table_of (change (change_of n place 0 bytes head) (state m).now) ≡ with (insert_at place v (means m).now.devices) (Some time)
     unfolding means
     created v makes =
         changes.created (state m).now (change_of n place 0 bytes head) within (sym numbered) (omega (arith, numbered)) (omega (arith, numbered)) (omega (arith, numbered, devices-most m, memory.rooms-length m s.memory))
@@ -71,7 +71,7 @@ module _ (m : List ℕ) (s : Sound m) (n : ℕ) (e : n ≡ length (means m).now.
     pub remove-able : AbleTo m (change_of i k 0 [] head)
     remove-able = memory.able m i k (get_or head 0 0) 0 0 s.memory (record { starts = omega (arith, few); ends = omega (arith, few); counted = omega (arith, few); inside = omega arith })
 
-    pub removed : table_of (change (change_of i k 0 [] head) (state m).now) ≡ with (remove_at i (means m).now.devices) (some time)
+    pub removed : table_of (change (change_of i k 0 [] head) (state m).now) ≡ with (remove_at i (means m).now.devices) (Some time)
     unfolding means
     removed =
         changes.removed (state m).now (change_of i k 0 [] head) within (sym less) (omega (arith, numbered)) (omega (arith, numbered))
@@ -82,7 +82,7 @@ module _ (m : List ℕ) (s : Sound m) (n : ℕ) (e : n ≡ length (means m).now.
     pub time-able : AbleTo m (change_of 0 0 0 [] head)
     time-able = memory.able m 0 0 (get_or head 0 0) 0 0 s.memory (record { starts = omega (arith, s.memory.header); ends = omega (arith, s.memory.header); counted = omega (arith, few); inside = omega arith })
 
-    pub timed : table_of (change (change_of 0 0 0 [] head) (state m).now) ≡ with (means m).now.devices (some time)
+    pub timed : table_of (change (change_of 0 0 0 [] head) (state m).now) ≡ with (means m).now.devices (Some time)
     unfolding means
     timed =
         changes.untouched (state m).now (change_of 0 0 0 [] head) within refl (same ∙ sym numbered) refl (omega (arith, s.memory.header, memory.rooms-length m s.memory))

@@ -1,10 +1,10 @@
 -- The head: as it is written (the number of devices, a 1, the last time in 8 bytes, zeros), and the last time read off it.
+use Rattle.std.specs.Prelude.{None, Some}
 use Prim.Native.Nat.{ℕ, ◌+◌, ◌^◌, ◌<◌}
 use native.Mathlib.Omega.{arith}
 use mathlib.Core.Path.{◌≡◌, refl, sym, ap, ◌∙◌}
 use mathlib.Core.List.{List, ◌∷◌}
 use mathlib.Core.Bool.{Bool, true, false}
-use mathlib.Core.Option.{none, some}
 use lib.ListN.{length, get_or, drop, replicate}
 use borrow.Author.Tests.{ne_eqb}
 use Rattle.little_endian.specs.Bytes.{le_bytes, num, u64, put, Stored}
@@ -30,15 +30,15 @@ module _ (n time : ℕ) (bytes : List ℕ) (w : Stored (untimed n) last_at 8 tim
   time_is : time < 256 ^ 8 → num 8 last_at (put (untimed n) last_at (le_bytes 8 time)) ≡ time
   time_is h = num-back 8 last_at time (put (untimed n) last_at (le_bytes 8 time)) (drop (last_at + length (le_bytes 8 time)) (untimed n)) (drop-put (untimed n) last_at (le_bytes 8 time) (omega arith)) h
 
-  flagged : last_of (put (untimed n) last_at (le_bytes 8 time)) ≡ some (num 8 last_at (put (untimed n) last_at (le_bytes 8 time)))
+  flagged : last_of (put (untimed n) last_at (le_bytes 8 time)) ≡ Some (num 8 last_at (put (untimed n) last_at (le_bytes 8 time)))
   unfolding last_of is_set put
   flagged = refl
 
-  pub last_is_lem : time < 256 ^ 8 → last_of bytes ≡ some time
-  last_is_lem h = ap last_of whole ∙ flagged ∙ ap (λ (t : ℕ). some t) (time_is h)
+  pub last_is_lem : time < 256 ^ 8 → last_of bytes ≡ Some time
+  last_is_lem h = ap last_of whole ∙ flagged ∙ ap (λ (t : ℕ). Some t) (time_is h)
 
 -- the last time, read off the head t of memory, whose flag is x
-by_flag : (t : List ℕ) (b : Bool) → is_set t last_flag_at ≡ b → last_of t ≡ elim b [ true ↦ some (u64 t last_at) | false ↦ none ]
+by_flag : (t : List ℕ) (b : Bool) → is_set t last_flag_at ≡ b → last_of t ≡ elim b [ true ↦ Some (u64 t last_at) | false ↦ None ]
 unfolding last_of
 by_flag t b h = rw (h, last_of)
 
@@ -47,10 +47,10 @@ module _ (m t : List ℕ) (x : ℕ) (e : t ≡ span m head_at head_size) (f : x 
   unfolding means table_of state current
   last-read = ap last_of e
 
-  pub never : x ≡ 0 → none ≡ (means m).now.last
+  pub never : x ≡ 0 → None ≡ (means m).now.last
   unfolding is_set
   never z = sym (by_flag t false (rw (← f, z))) ∙ last-read
 
-  pub at-time : (time : ℕ) → (x ≡ 0 → ⊥) → time ≡ u64 t last_at → some time ≡ (means m).now.last
+  pub at-time : (time : ℕ) → (x ≡ 0 → ⊥) → time ≡ u64 t last_at → Some time ≡ (means m).now.last
   unfolding is_set
-  at-time time z k = ap (λ (n : ℕ). some n) k ∙ sym (by_flag t true (rw (← f, ne_eqb x 0 z))) ∙ last-read
+  at-time time z k = ap (λ (n : ℕ). Some n) k ∙ sym (by_flag t true (rw (← f, ne_eqb x 0 z))) ∙ last-read

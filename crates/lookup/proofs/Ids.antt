@@ -1,5 +1,5 @@
 -- The ID of a device as it stands in memory: a length byte, then the bytes.
-use Prim.Native.Nat.{ℕ, zero, suc, ◌+◌, ◌≤◌, ◌<◌, min}
+use Prim.Native.Nat.{ℕ, zero, suc, ◌+◌, ◌<◌, min}
 use native.Mathlib.Omega.{arith}
 use mathlib.Core.Path.{◌≡◌, refl, sym, ap, ◌∙◌}
 use mathlib.Core.Bool.{false}
@@ -29,15 +29,10 @@ pub id_in-room : (m : List ℕ) (at : ℕ) → text_at m at id_most ≡ (device_
 unfolding device_of
 id_in-room m at = text_in-span m at room_size (omega arith)
 
--- as `id_from` finds it: b is its length byte
-module _ (m : List ℕ) (at b : ℕ) (e : b ≡ get_or m at 0) where
-  pub id-short : b < id_most → span m (at + 1) b ≡ text_at m at id_most
-  unfolding text_at
-  id-short h = let f : b ≡ min (get_or m at 0) id_most = omega arith in ap (span m (at + 1)) f
-
-  pub id-full : id_most ≤ b → span m (at + 1) id_most ≡ text_at m at id_most
-  unfolding text_at
-  id-full h = let f : id_most ≡ min (get_or m at 0) id_most = omega arith in ap (span m (at + 1)) f
+-- as `id_from` finds it
+pub id-cut : (m : List ℕ) (at n : ℕ) → n ≡ min (get_or m at 0) id_most → span m (at + 1) n ≡ text_at m at id_most
+unfolding text_at
+id-cut m at n e = ap (span m (at + 1)) e
 
 -- where its last byte would be that of another ID, there is another byte
 pub ends-other : (m id : List ℕ) (at j k : ℕ) → j ≡ at + 1 + k → k < length id → (get_or m j 0 ≡ get_or id k 0 → ⊥) → eq_bytes (text_at m at id_most) id ≡ false

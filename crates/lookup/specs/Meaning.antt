@@ -1,6 +1,5 @@
 -- What sound memory means: the table, and the tables that steps back lead to.
-use Rattle.std.specs.Prelude.{ℕ, ◌≡◌, List, map, true, false}
-use Rattle.std.proofs.Math.Option.{Option, none, some}
+use Rattle.std.specs.Prelude.{ℕ, ◌≡◌, List, map, true, false, Option, None, Some}
 use Rattle.text.specs.Ids.{is_id}
 use Rattle.little_endian.specs.Bytes.{u64}
 use Rattle.memory.specs.Sound as soundness
@@ -8,8 +7,6 @@ use Rattle.memory.specs.State.{Now, devices, state}
 use Rattle.book.specs.Book.{State}
 use Rattle.rules.specs.Table.{Device, Table}
 use Rattle.device.specs.Decode.{is_set, device_of}
-use Rattle.lookup.specs.declared.LastTime.{LastTime}
-use Rattle.lookup.specs.declared.LastTime.TheVariants.{Never, At}
 
 -- Paper 01, 6: "memory is not a sound table": the rule of the memory (crate memory), and "The table is opened for one domain, an ID."
 pub record Sound (m : List ℕ) : Type 0 where
@@ -24,12 +21,7 @@ abbrev pub last_at : ℕ
 last_at = 2
 
 unfoldable pub last_of : List ℕ → Option ℕ
-last_of head = elim (is_set head last_flag_at) [ true ↦ some (u64 head last_at) | false ↦ none ]
-
--- what the answer of `last` says
-unfoldable pub last_is : LastTime → Option ℕ
-last_is Never = none
-last_is (At t) = some t
+last_of head = elim (is_set head last_flag_at) [ true ↦ Some (u64 head last_at) | false ↦ None ]
 
 unfoldable pub table_of : Now → Table
 table_of s = record { devices = map device_of (devices s); last = last_of s.head }

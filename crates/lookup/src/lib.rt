@@ -3,14 +3,13 @@
 #![tactic(auto)]
 
 ghost use Rattle.std.specs.Prelude.{◌≡◌, true, false, ◌^◌, ◌<◌, length, get_or};
-ghost use Rattle.std.proofs.Math.Option.{some};
 ghost use Rattle.text.specs.Bytes.{eq_bytes, less_bytes};
 ghost use Rattle.memory.specs.Bytes.{span};
 ghost use Rattle.memory.specs.State.{order, room_of, state};
 ghost use Rattle.rules.specs.Find.{first_at};
 ghost use Rattle.text.specs.Ids.{id_most};
 ghost use Rattle.device.specs.Decode.{text_at, device_of};
-ghost use Rattle.lookup.specs.Meaning.{Sound, last_of, last_is, opening_of, means, devices_in};
+ghost use Rattle.lookup.specs.Meaning.{Sound, last_of, opening_of, means, devices_in};
 
 use memory::HEAD_SIZE;
 
@@ -18,19 +17,6 @@ use memory::HEAD_SIZE;
 const LAST_FLAG: usize = 1;
 
 const LAST: usize = 2;
-
-// The last time, or none.
-#[derive(Clone, Copy)]
-pub enum LastTime {
-    Never,
-    At(u64),
-}
-
-fn wide(x: u8) -> usize
-    ensures { (result ≡ x) × (result < 256) }
-{
-    x as usize
-}
 
 // The bytes from a place on, as many as asked for, as far as there are any.
 fn cut(mem: &[u8], at: usize, n: usize) -> &[u8]
@@ -57,10 +43,7 @@ pub fn domain(mem: &[u8]) -> &[u8]
 pub fn sound(mem: &[u8]) -> bool
     ensures { (result ≡ true → Sound mem.now) × (result ≡ false → Sound mem.now → ⊥) }
 {
-    if !memory::sound(mem) {
-        return false;
-    }
-    text::is_id(domain(mem))
+    memory::sound(mem) && text::is_id(domain(mem))
 }
 
 // How many slots the order has.
@@ -95,14 +78,12 @@ fn id_from(mem: &[u8], at: usize) -> &[u8]
     requires { at < 2 ^ 30 }
     ensures { result.now ≡ text_at mem.now at id_most }
 {
-    let n = wide(memory::byte(mem, at));
-    if n < text::Id::MAX {
-        return cut(mem, at + 1, n);
-    }
-    cut(mem, at + 1, text::Id::MAX)
+    let n = usize::from(memory::byte(mem, at)).min(text::Id::MAX);
+    cut(mem, at + 1, n)
 }
 
 // The ID in the room at a place of the order.
+// Kept by hand: no conversion, since it reads at a place.
 fn id_at(mem: &[u8], i: u8) -> &[u8]
     requires { i < length (order mem.now) }
     ensures { result.now ≡ (device_of (room_of (state mem.now).now i)).id }
@@ -116,14 +97,8 @@ fn ends_otherwise(mem: &[u8], at: usize, id: &[u8]) -> bool
     ensures { result ≡ true → eq_bytes (text_at mem.now at id_most) id.now ≡ false }
 {
     let n = id.len();
-    if n == 0 {
-        return false;
-    }
     let end = at + n;
-    if mem.len() <= end {
-        return false;
-    }
-    mem[end] != id[n - 1]
+    n != 0 && end < mem.len() && mem[end] != id[n - 1]
 }
 
 // Whether it is this one.
@@ -132,10 +107,7 @@ fn has_id(mem: &[u8], i: u8, id: &[u8]) -> bool
     ensures { result ≡ eq_bytes (device_of (room_of (state mem.now).now i)).id id.now }
 {
     let start = memory::room_at(mem[memory::ORDER + i as usize]);
-    if ends_otherwise(mem, start, id) {
-        return false;
-    }
-    text::same(id_from(mem, start), id)
+    !ends_otherwise(mem, start, id) && text::same(id_from(mem, start), id)
 }
 
 // The rank of the device with an ID; the number of devices where there is none.
@@ -143,12 +115,10 @@ pub fn find(mem: &[u8], id: &[u8]) -> u8
     ensures { result ≡ first_at (λ v. eq_bytes v.id id.now) (devices_in mem.now) }
 {
     let n = count(mem);
-    let mut i = 0;
-    while i < n {
+    for i in 0..n {
         if has_id(mem, i, id) {
             return i;
         }
-        i += 1;
     }
     n
 }
@@ -158,30 +128,29 @@ pub fn place_for(mem: &[u8], id: &[u8]) -> u8
     ensures { result ≡ first_at (λ v. less_bytes id.now v.id) (devices_in mem.now) }
 {
     let n = count(mem);
-    let mut place = 0;
-    while place < n {
+    for place in 0..n {
         if text::precedes(id, id_at(mem, place)) {
             return place;
         }
-        place += 1;
     }
     n
 }
 
 // The time of the last message, or none.
-pub fn last(mem: &[u8]) -> LastTime
-    ensures { last_is result ≡ (means mem.now).now.last }
+pub fn last(mem: &[u8]) -> Option<u64>
+    ensures { result ≡ (means mem.now).now.last }
 {
     let head = cut(mem, memory::HEAD, HEAD_SIZE);
     if memory::byte(head, LAST_FLAG) == 0 {
-        return LastTime::Never;
+        return None;
     }
-    LastTime::At(little_endian::get(head, LAST, 8))
+    Some(little_endian::get(head, LAST, 8))
 }
 
+// Kept by hand: an array of the head's size, since there is no heap; it is written whole, so that no length stands beside it.
 // The head of a table with n devices and this last time. Free: which value but 0 its flag has, and the 14 bytes behind the time.
 pub fn head(n: u8, time: u64) -> [u8; HEAD_SIZE]
-    ensures { (get_or result 0 0 ≡ n) × (last_of result ≡ some time) }
+    ensures { (get_or result 0 0 ≡ n) × (last_of result ≡ Some time) }
 {
     let mut bytes = [0u8; HEAD_SIZE];
     bytes[0] = n;

@@ -23,9 +23,6 @@ pub total-next : (f : ℕ → ℕ) (n k : ℕ) → n ≡ total f k → n + f k �
 unfolding total
 total-next f n k e = (let q : suc k ≡ k + 1 = omega arith in subst (λ (i : ℕ). n + f k ≡ total f i) q (ap (λ (x : ℕ). x + f k) e))
 
-pub total-end : (f : ℕ → ℕ) (n k d : ℕ) → d ≤ k → k ≤ d → n ≡ total f k → n ≡ total f d
-total-end f n k d l h e = (let q : k ≡ d = omega arith in e ∙ ap (total f) q)
-
 -- totals that differ at one place, or nowhere
 total-same : (f g : ℕ → ℕ) (n : ℕ) → ((k : ℕ) → k < n → g k ≡ f k) → total g n ≡ total f n
 unfolding total
@@ -146,9 +143,6 @@ module _ (order : ℕ → ℕ) where
       by_equal n d (λ z. all-marked d (omega (arith, e, q, z))) (λ o. omega (arith, e, q, marks-all d o))
 
   -- the marks, made one after another
-  pub hits-end : (seen : List ℕ) (t d : ℕ) → d ≤ t → t ≤ d → Hits order t seen → Hits order d seen
-  hits-end seen t d l k h = (let q : t ≡ d = omega arith in subst (λ (n : ℕ). Hits order n seen) q h)
-
   pub no-mark : Hits order 0 (replicate 256 0)
   unfolding hit
   no-mark = record {

@@ -40,56 +40,37 @@ pub const ENTRIES: usize = 128;
 
 pub const ENTRY_SIZE: usize = 32;
 
-fn wide(x: u8) -> usize
-    ensures { (result ≡ x) × (result < 256) }
-{
-    x as usize
-}
-
 // The byte at a place, 0 past the end.
 pub fn byte(mem: &[u8], at: usize) -> u8
     ensures { result ≡ get_or mem.now at 0 }
 {
-    if at < mem.len() { mem[at] } else { 0 }
+    mem.get(at).copied().unwrap_or(0)
 }
 
 // Where the room of a slot starts.
 pub fn room_at(k: u8) -> usize
     ensures { result ≡ room_at k }
 {
-    ROOM + ROOM * wide(k)
+    ROOM + ROOM * usize::from(k)
 }
 
 // Where the room at a place of the order starts.
 pub fn room_start(mem: &[u8], i: u8) -> usize
     ensures { result ≡ room_at (slot mem.now i) }
 {
-    room_at(byte(mem, ORDER + wide(i)))
+    room_at(byte(mem, ORDER + usize::from(i)))
 }
 
 fn counters(mem: &[u8]) -> bool
     requires { room_size ≤ length mem.now }
     ensures { (result ≡ true → Counters mem.now) × (result ≡ false → Counters mem.now → ⊥) }
 {
-    let n = wide(mem[DOMAIN_LENGTH]);
-    if n < 1 {
-        return false;
-    }
-    if DOMAIN_MOST < n {
-        return false;
-    }
-    if mem[CAPACITY] < mem[HEAD] {
-        return false;
-    }
-    if mem[DEPTH] < mem[STEPS] {
-        return false;
-    }
-    if 0 < mem[NEXT] {
-        if mem[DEPTH] <= mem[NEXT] {
-            return false;
-        }
-    }
-    true
+    let n = usize::from(mem[DOMAIN_LENGTH]);
+    1 <= n
+        && n <= DOMAIN_MOST
+        && mem[HEAD] <= mem[CAPACITY]
+        && mem[STEPS] <= mem[DEPTH]
+        && (mem[NEXT] == 0 || mem[NEXT] < mem[DEPTH])
 }
 
 // Whether the header is sound.
@@ -99,37 +80,25 @@ pub fn header(mem: &[u8]) -> bool
     if mem.len() < ROOM {
         return false;
     }
-    if mem[MARK_AT] != MARK {
-        return false;
-    }
-    let d = wide(mem[CAPACITY]);
-    let j = wide(mem[DEPTH]);
-    if d < 1 {
-        return false;
-    }
-    if MOST < d {
-        return false;
-    }
-    if MOST < j {
-        return false;
-    }
-    if mem.len() < ROOM + ROOM * d + ROOM * j {
-        return false;
-    }
-    counters(mem)
+    let d = usize::from(mem[CAPACITY]);
+    let j = usize::from(mem[DEPTH]);
+    mem[MARK_AT] == MARK
+        && 1 <= d
+        && d <= MOST
+        && j <= MOST
+        && ROOM + ROOM * d + ROOM * j <= mem.len()
+        && counters(mem)
 }
 
 // A mark for each slot that the order names.
+// Kept by hand: no heap, so the marks are an array, one for each value of a byte.
 fn marks(mem: &[u8], d: usize) -> [u8; 256]
     requires { (d ≤ most) × (order_at + most ≤ length mem.now) }
     ensures { Hits (slot mem.now) d result }
 {
     let mut seen = [0u8; 256];
-    let mut t: usize = 0;
-    while t < d {
-        let s = wide(mem[ORDER + t]);
-        seen[s] = 1;
-        t += 1;
+    for t in 0..d {
+        seen[usize::from(mem[ORDER + t])] = 1;
     }
     seen
 }
@@ -140,10 +109,8 @@ fn marked(seen: &[u8; 256], d: usize) -> u8
     ensures { result ≡ total (λ s. get_or seen.now s 0) d }
 {
     let mut n: u8 = 0;
-    let mut k: usize = 0;
-    while k < d {
+    for k in 0..d {
         n += seen[k];
-        k += 1;
     }
     n
 }
@@ -154,47 +121,28 @@ fn permuted(mem: &[u8], d: usize) -> bool
     ensures { (result ≡ true → Permutation d (slot mem.now)) × (result ≡ false → Permutation d (slot mem.now) → ⊥) }
 {
     let seen = marks(mem, d);
-    wide(marked(&seen, d)) == d
+    usize::from(marked(&seen, d)) == d
 }
 
 // Whether d rooms can take a change.
 fn suits(d: u8, from: u8, to: u8, n: u8, offset: usize, len: usize) -> bool
     ensures { (result ≡ true → ChangeFits d from to n offset len) × (result ≡ false → ChangeFits d from to n offset len → ⊥) }
 {
-    if d <= from {
-        return false;
-    }
-    if d <= to {
-        return false;
-    }
-    if d < n {
-        return false;
-    }
-    if ROOM < offset {
-        return false;
-    }
-    len <= ROOM - offset
+    from < d && to < d && n <= d && offset <= ROOM && len <= ROOM - offset
 }
 
 // Whether a change can be made: the header is sound, the change fits, and the slot is one.
 pub fn able(mem: &[u8], from: u8, to: u8, n: u8, offset: usize, len: usize) -> bool
     ensures { (result ≡ true → Able mem.now from to n offset len) × (result ≡ false → Able mem.now from to n offset len → ⊥) }
 {
-    if !header(mem) {
-        return false;
-    }
-    if !suits(mem[CAPACITY], from, to, n, offset, len) {
-        return false;
-    }
-    mem[ORDER + wide(from)] < mem[CAPACITY]
+    header(mem)
+        && suits(mem[CAPACITY], from, to, n, offset, len)
+        && mem[ORDER + usize::from(from)] < mem[CAPACITY]
 }
 
 // Whether memory is sound: the header and one pass over the order, whatever the ring and the rooms hold.
 pub fn sound(mem: &[u8]) -> bool
     ensures { (result ≡ true → Sound mem.now) × (result ≡ false → Sound mem.now → ⊥) }
 {
-    if !header(mem) {
-        return false;
-    }
-    permuted(mem, wide(mem[CAPACITY]))
+    header(mem) && permuted(mem, usize::from(mem[CAPACITY]))
 }

@@ -1,4 +1,5 @@
 -- Properties put into a list one after another, and what is told of them.
+use Rattle.std.specs.Prelude.{None, Option}
 use Prim.Native.Nat.{ℕ, suc, ◌≤◌}
 use mathlib.Core.Path.{◌≡◌, refl, sym, ap, ◌∙◌, subst}
 use mathlib.Core.List.{List, [], ◌∷◌, ◌++◌, append_assoc, append-nil}
@@ -7,11 +8,10 @@ use lib.ListN.{length}
 use lib.Dec.{ltb}
 use borrow.Author.Tests.{ltb-true}
 use Rattle.text.proofs.Bytes.{both}
-use Rattle.json_text.specs.Members.{Member, member_at, GotItem}
-use Rattle.json_text.specs.declared.Item.TheVariants.{At, Done}
+use Rattle.json_text.specs.Members.{Member, member_at, GotItem, found}
 use Rattle.json_text.specs.Ends.{Ends}
-use Rattle.faults.specs.declared.Told.{Told}
-use Rattle.faults.specs.Faults.{Fault, earlier, least}
+use Rattle.faults.specs.declared.Fault.{Fault}
+use Rattle.faults.specs.Faults.{earlier, least}
 use Rattle.faults.proofs.Laws.{earlier_assoc, earlier_comm, earlier-none, earlier-nothing, least-join}
 use Rattle.properties.specs.Property.{Property, insert_all}
 use Rattle.properties.specs.Entries.{properties_most, view}
@@ -24,10 +24,10 @@ use Rattle.nodes.specs.Parts.{counted, past_most_at, past_most, Adds}
 -- ---- faults told in another order
 
 -- (a b) (c d) is (a c) (b d)
-pub cross : (a b c d : Told) → earlier (earlier a b) (earlier c d) ≡ earlier (earlier a c) (earlier b d)
+pub cross : (a b c d : Option Fault) → earlier (earlier a b) (earlier c d) ≡ earlier (earlier a c) (earlier b d)
 cross a b c d =
     earlier_assoc a b (earlier c d) ∙
-    (ap (earlier a) (sym (earlier_assoc b c d) ∙ (ap (λ (t : Told). earlier t d) (earlier_comm b c) ∙ earlier_assoc c b d)) ∙
+    (ap (earlier a) (sym (earlier_assoc b c d) ∙ (ap (λ (t : Option Fault). earlier t d) (earlier_comm b c) ∙ earlier_assoc c b d)) ∙
     sym (earlier_assoc a c (earlier b d)))
 
 -- ---- counting
@@ -68,10 +68,10 @@ past-append s n (m ∷ ms) ns =
 -- two parts, each with what it counts
 parts : (fs gs xs ys : List Fault) → earlier (least (fs ++ xs)) (least (gs ++ ys)) ≡ least ((fs ++ gs) ++ (xs ++ ys))
 parts fs gs xs ys =
-    ap (λ (t : Told). earlier t (least (gs ++ ys))) (least-join fs xs) ∙
+    ap (λ (t : Option Fault). earlier t (least (gs ++ ys))) (least-join fs xs) ∙
     (ap (earlier (earlier (least fs) (least xs))) (least-join gs ys) ∙
     (cross (least fs) (least xs) (least gs) (least ys) ∙
-    (ap (λ (t : Told). earlier t (earlier (least xs) (least ys))) (sym (least-join fs gs)) ∙
+    (ap (λ (t : Option Fault). earlier t (earlier (least xs) (least ys))) (sym (least-join fs gs)) ∙
     (ap (earlier (least (fs ++ gs))) (sym (least-join xs ys)) ∙
     sym (least-join (fs ++ gs) (xs ++ ys))))))
 
@@ -84,7 +84,7 @@ module _ (s : List ℕ) where
   -- other faults of which the same is told
   pub adds_as : {fs gs : List Fault} {ms : List Member} {ps : List Property} {a b : Listed} → least fs ≡ least gs → Adds fs ms ps s a b → Adds gs ms ps s a b
   adds_as {fs} {gs} {ms} {ps} {a} {b} e h = record {
-    told = h.told ∙ ap (earlier a.told) (least-join fs (past_most s a.list.n ms) ∙ (ap (λ (t : Told). earlier t (least (past_most s a.list.n ms))) e ∙ sym (least-join gs (past_most s a.list.n ms))));
+    told = h.told ∙ ap (earlier a.told) (least-join fs (past_most s a.list.n ms) ∙ (ap (λ (t : Option Fault). earlier t (least (past_most s a.list.n ms))) e ∙ sym (least-join gs (past_most s a.list.n ms))));
     count = h.count;
     list = h.list;
   }
@@ -93,13 +93,13 @@ module _ (s : List ℕ) where
   pub adds_then : {fs gs : List Fault} {ms ns : List Member} {ps qs : List Property} {a b c : Listed} →
       Adds fs ms ps s a b → Adds gs ns qs s b c → Adds (fs ++ gs) (ms ++ ns) (ps ++ qs) s a c
   adds_then {fs} {gs} {ms} {ns} {ps} {qs} {a} {b} {c} h k = record {
-    told = k.told ∙ (ap (λ (t : Told). earlier t (least (gs ++ past_most s b.list.n ns))) h.told ∙ (earlier_assoc a.told (least (fs ++ past_most s a.list.n ms)) (least (gs ++ past_most s b.list.n ns)) ∙ ap (earlier a.told) (ap (λ (n : ℕ). earlier (least (fs ++ past_most s a.list.n ms)) (least (gs ++ past_most s n ns))) h.count ∙ (parts fs gs (past_most s a.list.n ms) (past_most s (counted a.list.n ms) ns) ∙ ap (λ (l : List Fault). least ((fs ++ gs) ++ l)) (sym (past-append s a.list.n ms ns))))));
+    told = k.told ∙ (ap (λ (t : Option Fault). earlier t (least (gs ++ past_most s b.list.n ns))) h.told ∙ (earlier_assoc a.told (least (fs ++ past_most s a.list.n ms)) (least (gs ++ past_most s b.list.n ns)) ∙ ap (earlier a.told) (ap (λ (n : ℕ). earlier (least (fs ++ past_most s a.list.n ms)) (least (gs ++ past_most s n ns))) h.count ∙ (parts fs gs (past_most s a.list.n ms) (past_most s (counted a.list.n ms) ns) ∙ ap (λ (l : List Fault). least ((fs ++ gs) ++ l)) (sym (past-append s a.list.n ms ns))))));
     count = k.count ∙ (ap (λ (n : ℕ). counted n ns) h.count ∙ sym (counted-append a.list.n ms ns));
     list = λ e. k.list e ∙ (ap (insert_all qs) (h.list (earlier-nothing b.told (least (gs ++ past_most s b.list.n ns)) (sym k.told ∙ e)).0) ∙ sym (insert-append ps qs (view s a.list)));
   }
 
   -- one fault more, or none
-  pub adds-faults : (fs : List Fault) {t u : Told} {a b : Listed} → t ≡ least fs → u ≡ earlier a.told t → b.told ≡ u → b.list ≡ a.list → Adds fs [] [] s a b
+  pub adds-faults : (fs : List Fault) {t u : Option Fault} {a b : Listed} → t ≡ least fs → u ≡ earlier a.told t → b.told ≡ u → b.list ≡ a.list → Adds fs [] [] s a b
   unfolding past_most counted insert_all
   adds-faults fs {t} {u} {a} {b} p q r e = record {
     told = r ∙ (q ∙ ap (earlier a.told) (p ∙ ap least (sym (append-nil fs))));
@@ -138,10 +138,10 @@ module _ (w : Adding) (s : List ℕ) where
   turn-first a g = record { before = []; walking = g; adds = adds-nothing a }
 
   module _ {i : ℕ} {all : List Member} {a b : Listed} (t : Turn w s i all a b) where
-    pub turn-done : member_at s i ≡ Done → AddsAll w all s a b
+    pub turn-done : member_at s i ≡ None → AddsAll w all s a b
     turn-done q = subst (λ (ms : List Member). AddsAll w ms s a b) (sym (append-nil t.before) ∙ at_done (member_at s) (λ ms. t.before ++ ms) (length s) i t.walking q) t.adds
 
-    pub turn-next : {k e n : ℕ} {c : Listed} → GotItem (member_at s i) i (length s) (At k e n) → AddsAll w (record { name = i; value = k; end = e } ∷ []) s b c → Turn w s n all a c
+    pub turn-next : {k e n : ℕ} {c : Listed} → GotItem (member_at s i) i (length s) (found k e n) → AddsAll w (record { name = i; value = k; end = e } ∷ []) s b c → Turn w s n all a c
     turn-next {k} {e} {n} {c} g h =
         let m : Member = record { name = i; value = k; end = e } in
         record {

@@ -1,4 +1,5 @@
 -- No two properties of nodes without fault have the same two IDs, and there are at most 24.
+use Rattle.std.specs.Prelude.{None, Option, Some}
 use Prim.Native.Nat.{ℕ, zero, suc, ◌+◌, ◌≤◌}
 use native.Mathlib.Omega.{arith}
 use mathlib.Core.Path.{◌≡◌, refl, sym, ap, ◌∙◌}
@@ -10,8 +11,6 @@ use Rattle.json_text.specs.Members.{Member}
 use Rattle.faults.proofs.Laws.{both-none}
 use Rattle.fields.specs.Values.{string_bytes, members, name_of}
 use Rattle.fields.specs.Fields.{field, members_in, among, comes_first}
-use Rattle.fields.specs.declared.Field.{Field}
-use Rattle.fields.specs.declared.Field.TheVariants.{Absent, First}
 use Rattle.fields.proofs.Names as names
 use Rattle.fields.proofs.Names.{Unnamed, unnamed-more, Unlike, Firsts, firsts_more, firsts, unlike, among_first, among-rest}
 use Rattle.properties.specs.Property.{Property, property_faults, property_at}
@@ -60,10 +59,10 @@ module _ (s : List ℕ) where
     among-apart [] u = none
     among-apart (m ∷ ms) (names.more h u) = more (λ q i n k. among-id (name_of s m) ms h i (sym k)) (among-apart ms u)
 
-    node-apart : (f : Field) → each (property_member s) s f ≡ [] → Apart (properties_among s node (members_in s f))
+    node-apart : (f : Option ℕ) → each (property_member s) s f ≡ [] → Apart (properties_among s node (members_in s f))
     unfolding each members_in properties_among
-    node-apart Absent h = none
-    node-apart (First k) h = among-apart (members s k) (unlike s k (property_firsts k (members s k) h))
+    node-apart None h = none
+    node-apart (Some k) h = among-apart (members s k) (unlike s k (property_firsts k (members s k) h))
 
   -- ---- all nodes'
 
@@ -86,10 +85,10 @@ module _ (s : List ℕ) where
       (of-apart at ns u (among-rest (node_member s at) m ns h))
       (λ p q i j n x. of_node (name_of s m) ns k j (sym n ∙ among-node m.name (members_in s f) i))
 
-  pub nodes-apart : (f : Field) → nodes_faults s f ≡ [] → Apart (properties_of s (members_in s f))
+  pub nodes-apart : (f : Option ℕ) → nodes_faults s f ≡ [] → Apart (properties_of s (members_in s f))
   unfolding nodes_faults members_in properties_of
-  nodes-apart Absent h = none
-  nodes-apart (First k) h =
+  nodes-apart None h = none
+  nodes-apart (Some k) h =
       let g = (both-none (among (node_member s k) (members s k)) (too_many s (named_in s k (members s k))) h).0 in
       of-apart k (members s k) (unlike s k (node_firsts k (members s k) g)) g
 
@@ -117,9 +116,9 @@ module _ (s : List ℕ) where
       (ap (λ (k : ℕ). k + length (properties_of s ns)) (among-length n.name l) ∙
       (ap (λ (k : ℕ). length l + k) (named-length at ns f) ∙ sym (named-first at n ns e)))
 
-  pub nodes-few : (f : Field) → nodes_faults s f ≡ [] → length (properties_of s (members_in s f)) ≤ properties_most
+  pub nodes-few : (f : Option ℕ) → nodes_faults s f ≡ [] → length (properties_of s (members_in s f)) ≤ properties_most
   unfolding nodes_faults members_in properties_of too_many
-  nodes-few Absent h = omega arith
-  nodes-few (First k) h =
+  nodes-few None h = omega arith
+  nodes-few (Some k) h =
       let g = both-none (among (node_member s k) (members s k)) (too_many s (named_in s k (members s k))) h in
       rw (named-length k (members s k) (node_firsts k (members s k) g.0)) (no_more s properties_most (named_in s k (members s k)) g.1)

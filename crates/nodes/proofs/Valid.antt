@@ -1,4 +1,5 @@
 -- The properties of nodes without fault are valid.
+use Rattle.std.specs.Prelude.{None, Option, Some}
 use Prim.Native.Nat.{ℕ}
 use mathlib.Core.Path.{◌≡◌}
 use mathlib.Core.Logic.{◌⊎◌, inl, inr}
@@ -10,8 +11,6 @@ use Rattle.json_text.specs.Members.{Member}
 use Rattle.faults.proofs.Laws.{both-none}
 use Rattle.fields.specs.Values.{string_bytes, name_of, is_object, members}
 use Rattle.fields.specs.Fields.{field, members_in, among, of_kind, field_faults, name_faults}
-use Rattle.fields.specs.declared.Field.{Field}
-use Rattle.fields.specs.declared.Field.TheVariants.{Absent, First}
 use Rattle.fields.specs.declared.Kind.TheVariants.{Text, Object}
 use Rattle.fields.specs.declared.Owner.TheVariants as owner
 use Rattle.fields.proofs.Names.{Entry, entry, among_first, among-rest}
@@ -56,10 +55,10 @@ module _ (s : List ℕ) where
         rw e (valid s node m.name m.value n k.id k.valid)
     among-valid node at (m ∷ ms) n h (later i) = among-valid node at ms n (among-rest (property_member s at) m ms h) i
 
-    in-node : (node : ℕ) (f : Field) → is_id (string_bytes s node) ≡ true → each (property_member s) s f ≡ [] → In p (properties_among s node (members_in s f)) → Valid p
+    in-node : (node : ℕ) (f : Option ℕ) → is_id (string_bytes s node) ≡ true → each (property_member s) s f ≡ [] → In p (properties_among s node (members_in s f)) → Valid p
     unfolding each members_in properties_among
-    in-node node Absent n h i = in-none i
-    in-node node (First k) n h i = among-valid node k (members s k) n h i
+    in-node node None n h i = in-none i
+    in-node node (Some k) n h i = among-valid node k (members s k) n h i
 
     of-nodes : (at : ℕ) (ns : List Member) → among (node_member s at) ns ≡ [] → In p (properties_of s ns) → Valid p
     unfolding properties_of name_of
@@ -70,7 +69,7 @@ module _ (s : List ℕ) where
         go (inl j) f k = in-node m.name (field s m.value properties) k.id (node-properties m.value k.valid) j
         go (inr j) f k = f j
 
-    pub in-nodes : (f : Field) → nodes_faults s f ≡ [] → In p (properties_of s (members_in s f)) → Valid p
+    pub in-nodes : (f : Option ℕ) → nodes_faults s f ≡ [] → In p (properties_of s (members_in s f)) → Valid p
     unfolding nodes_faults members_in properties_of
-    in-nodes Absent h i = in-none i
-    in-nodes (First k) h i = of-nodes k (members s k) (both-none (among (node_member s k) (members s k)) (too_many s (named_in s k (members s k))) h).0 i
+    in-nodes None h i = in-none i
+    in-nodes (Some k) h i = of-nodes k (members s k) (both-none (among (node_member s k) (members s k)) (too_many s (named_in s k (members s k))) h).0 i

@@ -1,11 +1,10 @@
 -- The nodes of a description (paper 01, "The description"; paper 02, K4): their faults, and the properties that they declare.
-use Rattle.std.specs.Prelude.{ℕ, List, [], ◌∷◌, ◌++◌, Bool, true, false, drop}
+use Rattle.std.specs.Prelude.{ℕ, List, [], ◌∷◌, ◌++◌, Bool, true, false, drop, None, Option, Some}
 use Rattle.json_text.specs.Members.{Member}
-use Rattle.faults.specs.Faults.{Fault, other_rule}
+use Rattle.faults.specs.declared.Fault.{Fault}
+use Rattle.faults.specs.Faults.{other_rule}
 use Rattle.fields.specs.Values.{is_object, members}
 use Rattle.fields.specs.Fields.{field, members_in, of_kind, among, field_faults, name_faults, comes_first, entry_faults, decoded_faults}
-use Rattle.fields.specs.declared.Field.{Field}
-use Rattle.fields.specs.declared.Field.TheVariants.{Absent, First}
 use Rattle.fields.specs.declared.Kind.TheVariants.{Text, Object}
 use Rattle.fields.specs.declared.Owner.TheVariants as owner
 use Rattle.properties.specs.Property.{Property, property_faults, property_at}
@@ -13,9 +12,9 @@ use Rattle.properties.specs.Entries.{properties_most}
 use Rattle.nodes.specs.Names.{name, type, properties}
 
 -- every member of the object that a field holds
-unfoldable pub each : (ℕ → Member → List Fault) → List ℕ → Field → List Fault
-each faults s Absent = []
-each faults s (First k) = among (faults k) (members s k)
+unfoldable pub each : (ℕ → Member → List Fault) → List ℕ → Option ℕ → List Fault
+each faults s None = []
+each faults s (Some k) = among (faults k) (members s k)
 
 -- a member of `properties`, the object at `at`
 unfoldable pub property_member : List ℕ → ℕ → Member → List Fault
@@ -57,9 +56,9 @@ unfoldable pub too_many : List ℕ → List Member → List Fault
 too_many s ms = among (λ m. too_many_at s m.name) (drop properties_most ms)
 
 -- the nodes in the object that a field holds
-unfoldable pub nodes_faults : List ℕ → Field → List Fault
-nodes_faults s Absent = []
-nodes_faults s (First k) = among (node_member s k) (members s k) ++ too_many s (named_in s k (members s k))
+unfoldable pub nodes_faults : List ℕ → Option ℕ → List Fault
+nodes_faults s None = []
+nodes_faults s (Some k) = among (node_member s k) (members s k) ++ too_many s (named_in s k (members s k))
 
 -- the properties that these members declare, of the node whose ID is the string at `node`
 unfoldable pub properties_among : List ℕ → ℕ → List Member → List Property

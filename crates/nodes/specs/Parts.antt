@@ -1,9 +1,8 @@
 -- What the contracts of private functions cite.
-use Rattle.std.specs.Prelude.{ℕ, suc, ◌≡◌, List, [], ◌∷◌, ◌++◌, true, false, ltb}
+use Rattle.std.specs.Prelude.{ℕ, suc, ◌≡◌, List, [], ◌∷◌, ◌++◌, true, false, ltb, None, Option}
 use Rattle.json_text.specs.Members.{Member}
-use Rattle.faults.specs.Faults.{Fault, earlier, least}
-use Rattle.faults.specs.declared.Told.{Told}
-use Rattle.faults.specs.declared.Told.TheVariants.{Nothing}
+use Rattle.faults.specs.declared.Fault.{Fault}
+use Rattle.faults.specs.Faults.{earlier, least}
 use Rattle.fields.specs.Fields.{field_faults}
 use Rattle.fields.specs.Known.{field_at}
 use Rattle.fields.specs.declared.Kind.TheVariants.{Text, Object}
@@ -32,14 +31,14 @@ past_most s n [] = []
 past_most s n (m ∷ ms) = past_most_at s n m.name ++ past_most s (counted n (m ∷ [])) ms
 
 -- a list, and what is told so far
-abbrev pub lists : Told → Entries → Listed
+abbrev pub lists : Option Fault → Entries → Listed
 lists told list = record { told = told; list = list }
 
 -- these faults and these properties more: what is told of them besides, and if nothing is, the list with the properties put in
 pub record Adds (faults : List Fault) (named : List Member) (ps : List Property) (s : List ℕ) (before after : Listed) : Type 0 where
   pub told : after.told ≡ earlier before.told (least (faults ++ past_most s before.list.n named))
   pub count : after.list.n ≡ counted before.list.n named
-  pub list : after.told ≡ Nothing → view s after.list ≡ insert_all ps (view s before.list)
+  pub list : after.told ≡ None → view s after.list ≡ insert_all ps (view s before.list)
 
 -- the known fields of a node, by what was seen of them
 unfoldable pub seen_faults : List ℕ → List ℕ → List Fault

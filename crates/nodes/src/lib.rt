@@ -1,4 +1,5 @@
 // The nodes of a description: judged, and their properties listed. Answers are right if the table of ends is.
+// Kept by hand: the walks of `add_properties` and `add_nodes` need the place `i` of each name beside its member, as those of crate `fields` do.
 #![tactic(auto)]
 
 ghost use Rattle.std.specs.Prelude.{◌≡◌, true, false, [], ◌∷◌, ◌++◌, ℕ};
@@ -14,29 +15,25 @@ ghost use Rattle.nodes.specs.Nodes.{property_member, each, node_faults, node_mem
 ghost use Rattle.nodes.specs.Parts.{item_of, lists, past_most_at, past_most, Adds, seen_faults};
 ghost use Rattle.nodes.specs.Listed.{Lists};
 
-use faults::{OTHER_RULE, REPEATED, Told, WRONG_KIND};
-use fields::{Field, Kind, Owner};
-use json_text::Item;
+use faults::{Fault, FaultKind};
+use fields::{Field, Kind, Known, Owner};
 use properties::{Entries, Judged};
 
 // Nodes judged: what is told of their faults, and if there is none, the list with their properties put in.
 #[derive(Clone, Copy)]
 pub struct Listed {
-    pub told: Told,
+    pub told: Option<Fault>,
     pub list: Entries,
 }
 
 // What is told of a property whose ID is at `i`, with n before it.
-fn past_most(s: &[u8], n: usize, i: usize, ends: &[u16]) -> Told
+fn past_most(s: &[u8], n: usize, i: usize, ends: &[u16]) -> Option<Fault>
     ensures { Ends s.now ends.now → result ≡ least (past_most_at s.now n i) }
 {
     if n < properties::MOST {
-        return Told::Nothing;
+        return None;
     }
-    match fields::half_told(s, i, ends) {
-        Told::Nothing => Told::At(i, OTHER_RULE),
-        Told::At(half, number) => Told::At(half, number),
-    }
+    fields::half_told(s, i, ends).or(Some(FaultKind::RuleBroken.at(i)))
 }
 
 // The value at `k` of a property whose own ID is at `id`, of the node whose ID is at `node`: judged if it is the first of its name.
@@ -47,7 +44,7 @@ fn property_value(s: &[u8], first: bool, node: usize, id: usize, k: usize, ends:
         return properties::property_at(s, node, id, k, ends);
     }
     Judged {
-        told: Told::At(id, REPEATED),
+        told: Some(FaultKind::NameRepeated.at(id)),
         entry: properties::blank(node, id),
     }
 }
@@ -70,7 +67,7 @@ fn property_member(
     let named = faults::earlier(fields::id_name_told(s, i, ends), past_most(s, n, i, ends));
     Judged {
         told: faults::earlier(named, value),
-        entry: entry,
+        entry,
     }
 }
 
@@ -79,7 +76,7 @@ fn add_properties(
     s: &[u8],
     node: usize,
     at: usize,
-    before: Told,
+    before: Option<Fault>,
     listed: Entries,
     ends: &[u16],
 ) -> Listed
@@ -88,75 +85,66 @@ fn add_properties(
     let mut told = before;
     let mut list = listed;
     if json_text::peek(s, at) != 123 {
-        return Listed {
-            told: told,
-            list: list,
-        };
+        return Listed { told, list };
     }
     let mut i = json_text::skip(s, at + 1);
-    loop {
-        match json_text::member_by(s, i, ends) {
-            Item::Done => {
-                return Listed {
-                    told: told,
-                    list: list,
-                };
-            }
-            Item::At(k, _, n) => {
-                let p = property_member(s, node, at, i, k, list.n, ends);
-                let more = p.told;
-                let entry = p.entry;
-                told = faults::earlier(told, more);
-                list = properties::insert(s, entry, list, ends);
-                i = n;
-            }
-        }
+    while let Some(member) = json_text::member_by(s, i, ends) {
+        let p = property_member(s, node, at, i, member.value, list.n, ends);
+        told = faults::earlier(told, p.told);
+        list = properties::insert(s, p.entry, list, ends);
+        i = member.next;
     }
+    Listed { told, list }
 }
 
 // The list with the properties in the object that a field holds.
-fn add_field(s: &[u8], node: usize, f: Field, told: Told, list: Entries, ends: &[u16]) -> Listed
+fn add_field(
+    s: &[u8],
+    node: usize,
+    f: Option<usize>,
+    told: Option<Fault>,
+    list: Entries,
+    ends: &[u16],
+) -> Listed
     ensures { Ends s.now ends.now → Adds (each (property_member s.now) s.now f) (members_in s.now f) (properties_among s.now node (members_in s.now f)) s.now (lists told list) result }
 {
     match f {
-        Field::Absent => Listed {
-            told: told,
-            list: list,
-        },
-        Field::First(p) => add_properties(s, node, p, told, list, ends),
+        None => Listed { told, list },
+        Some(p) => add_properties(s, node, p, told, list, ends),
     }
 }
 
 // What is told of the known fields of a node.
-fn fields_told(s: &[u8], seen: &[usize; 16], ends: &[u16]) -> Told
-    ensures { Ends s.now ends.now → result ≡ least (seen_faults s.now seen.now) }
+fn fields_told(s: &[u8], m: &Known, ends: &[u16]) -> Option<Fault>
+    ensures { Ends s.now ends.now → result ≡ least (seen_faults s.now m.now.seen) }
 {
-    let name = fields::field_told(s, fields::field_at(seen, fields::NAME), Kind::Text, ends);
-    let kind = fields::field_told(s, fields::field_at(seen, fields::TYPE), Kind::Text, ends);
-    let held = fields::field_told(
-        s,
-        fields::field_at(seen, fields::PROPERTIES),
-        Kind::Object,
-        ends,
-    );
+    let name = fields::field_told(s, m.get(Field::Name), Kind::Text, ends);
+    let kind = fields::field_told(s, m.get(Field::Type), Kind::Text, ends);
+    let held = fields::field_told(s, m.get(Field::Properties), Kind::Object, ends);
     faults::earlier(name, faults::earlier(kind, held))
 }
 
 // The list with the properties of the node whose ID is at `i` and whose value is at `k`.
-fn add_node(s: &[u8], i: usize, k: usize, told: Told, list: Entries, ends: &[u16]) -> Listed
+fn add_node(
+    s: &[u8],
+    i: usize,
+    k: usize,
+    told: Option<Fault>,
+    list: Entries,
+    ends: &[u16],
+) -> Listed
     ensures { Ends s.now ends.now → Adds (node_faults s.now k) (members_in s.now (field s.now k properties)) (properties_among s.now i (members_in s.now (field s.now k properties))) s.now (lists told list) result }
 {
     if !fields::is_object(s, k) {
         return Listed {
-            told: faults::earlier(told, Told::At(k, WRONG_KIND)),
-            list: list,
+            told: faults::earlier(told, Some(FaultKind::WrongKind.at(k))),
+            list,
         };
     }
     let m = fields::known_fields(Owner::Node, s, k, ends);
     let names = m.told;
-    let seen = m.seen;
-    let own = faults::earlier(names, fields_told(s, &seen, ends));
-    let f = fields::field_at(&seen, fields::PROPERTIES);
+    let own = faults::earlier(names, fields_told(s, &m, ends));
+    let f = m.get(Field::Properties);
     add_field(s, i, f, faults::earlier(told, own), list, ends)
 }
 
@@ -166,7 +154,7 @@ fn add_member(
     nodes: usize,
     i: usize,
     k: usize,
-    told: Told,
+    told: Option<Fault>,
     list: Entries,
     ends: &[u16],
 ) -> Listed
@@ -177,8 +165,8 @@ fn add_member(
         return add_node(s, i, k, named, list, ends);
     }
     Listed {
-        told: faults::earlier(named, Told::At(i, REPEATED)),
-        list: list,
+        told: faults::earlier(named, Some(FaultKind::NameRepeated.at(i))),
+        list,
     }
 }
 
@@ -191,29 +179,23 @@ fn add_nodes(s: &[u8], nodes: usize, before: Listed, ends: &[u16]) -> Listed
         return l;
     }
     let mut i = json_text::skip(s, nodes + 1);
-    loop {
-        match json_text::member_by(s, i, ends) {
-            Item::Done => return l,
-            Item::At(k, _, n) => {
-                let told = l.told;
-                let list = l.list;
-                l = add_member(s, nodes, i, k, told, list, ends);
-                i = n;
-            }
-        }
+    while let Some(member) = json_text::member_by(s, i, ends) {
+        l = add_member(s, nodes, i, member.value, l.told, l.list, ends);
+        i = member.next;
     }
+    l
 }
 
 // The nodes in the object that a field holds, with their properties in order.
-pub fn nodes_in(s: &[u8], f: Field, ends: &[u16]) -> Listed
+pub fn nodes_in(s: &[u8], f: Option<usize>, ends: &[u16]) -> Listed
     ensures { Ends s.now ends.now → Lists (nodes_faults s.now f) (insert_all (properties_of s.now (members_in s.now f)) []) s.now result }
 {
     let l = Listed {
-        told: Told::Nothing,
+        told: None,
         list: properties::empty(),
     };
     match f {
-        Field::Absent => l,
-        Field::First(k) => add_nodes(s, k, l, ends),
+        None => l,
+        Some(k) => add_nodes(s, k, l, ends),
     }
 }

@@ -1,7 +1,6 @@
 -- A whole number as a difference of two naturals, `sub_ℕ a b`: sums, products, quotients rounded down and order, by equations in ℕ.
 use Prim.Native.Nat.{ℕ, zero, suc, ◌+◌, ◌-◌, ◌*◌, ◌/◌, ◌<◌, ◌≤◌}
 use mathlib.Core.Path.{◌≡◌, refl, ap, ◌∙◌, sym}
-use mathlib.Core.Bool.{true, false}
 use native.Mathlib.Omega.{arith}
 use native.Mathlib.Decide.{dec_lt, dec_le}
 use native.Mathlib.Nat.{mul-sub, mul-add, add-mul, suc-mul, mul-le-mul_left}
@@ -93,26 +92,3 @@ le-sub a b c d = pick (dec_lt a b) (dec_lt c d)
     pick (yes h) (no k) = rw (sub_lt a b h, sub_ge c d (omega arith)) (sym (le-leb (a + d) (c + b) (omega arith)))
     pick (no h) (yes k) = rw (sub_ge a b (omega arith), sub_lt c d k) (sym (lt-leb (a + d) (c + b) (omega arith)))
     pick (no h) (no k) = rw (sub_ge a b (omega arith), sub_ge c d (omega arith)) (leb_eq (a - b) (c - d) (a + d) (c + b) (λ x. omega arith) (λ x. omega arith))
-
--- the four returns of `sum_le`
-module _ (a x b y : ℕ) where
-  pub le_down : a ≤ b → x ≤ b - a → true ≡ leb (a + x) (b + y)
-  le_down h k = sym (le-leb (a + x) (b + y) (omega arith))
-
-  pub le_part : a ≤ b → b - a < x → leb (x - (b - a)) y ≡ leb (a + x) (b + y)
-  le_part h k = leb_eq (x - (b - a)) y (a + x) (b + y) (λ t. omega arith) (λ t. omega arith)
-
-  pub gt_part : b < a → a - b ≤ y → leb x (y - (a - b)) ≡ leb (a + x) (b + y)
-  gt_part h k = leb_eq x (y - (a - b)) (a + x) (b + y) (λ t. omega arith) (λ t. omega arith)
-
-  pub gt-far : b < a → y < a - b → false ≡ leb (a + x) (b + y)
-  gt-far h k = sym (lt-leb (a + x) (b + y) (omega arith))
-
--- a comparison of two differences, where both sides have the same number taken away
-pub above-sub : (k n v add sub : ℕ) → leb (n + sub) (v + add) ≡ le_z (sub_ℕ n k) (sub_ℕ (v + add) (k + sub))
-above-sub k n v add sub =
-    leb_eq (n + sub) (v + add) (n + (k + sub)) (v + add + k) (λ t. omega arith) (λ t. omega arith) ∙ sym (le-sub n k (v + add) (k + sub))
-
-pub below_sub : (k n v add sub : ℕ) → leb (v + add) (n + sub) ≡ le_z (sub_ℕ (v + add) (k + sub)) (sub_ℕ n k)
-below_sub k n v add sub =
-    leb_eq (v + add) (n + sub) (v + add + k) (n + (k + sub)) (λ t. omega arith) (λ t. omega arith) ∙ sym (le-sub (v + add) (k + sub) n k)

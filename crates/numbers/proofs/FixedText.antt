@@ -1,10 +1,10 @@
 -- The shape that a step asks for, on a text by its parts, and what it is in billionths.
+use Rattle.std.specs.Prelude.{None, Some}
 use Prim.Native.Nat.{ℕ, ◌-◌, ◌*◌, ◌^◌, ◌≤◌}
 use native.Mathlib.Omega.{arith}
 use mathlib.Core.Path.{◌≡◌, refl, sym, ap, ◌∙◌}
 use mathlib.Core.List.{List, [], ◌∷◌, ◌++◌}
 use mathlib.Core.Bool.{Bool, true, false, cond, ◌&&◌}
-use mathlib.Core.Option.{none, some}
 use lib.Dec.{leb}
 use lib.ListN.{length, length-append}
 use borrow.Author.Tests.{le-leb, leb-true}
@@ -94,6 +94,6 @@ module _ (neg : Bool) (ws fs : List ℕ) (c : ℕ) (below : Bool) (es : List ℕ
   unfolding in_billionths
   in-billionths_is = rw (significant_is neg ws fs c below es h, fraction_is neg ws fs c below es h, minus-sign neg (ws ++ (dotted fs ++ powered c below es)) (starts neg ws fs c below es h))
 
-  pub billionths_is : billionths (text neg ws fs c below es) ≡ cond (is_empty es && are_few (length ws) (length fs)) (some (signed neg (number (ws ++ fs) * 10 ^ (9 - length fs)))) none
+  pub billionths_is : billionths (text neg ws fs c below es) ≡ cond (is_empty es && are_few (length ws) (length fs)) (Some (signed neg (number (ws ++ fs) * 10 ^ (9 - length fs)))) None
   unfolding billionths
   billionths_is = rw (fixed_is, in-billionths_is)

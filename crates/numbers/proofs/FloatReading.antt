@@ -1,4 +1,5 @@
 -- What the reader of decimals does on a text by its parts, and that it comes to the rule.
+use Rattle.std.specs.Prelude.{Option, None, Some}
 use Prim.Native.Nat.{ℕ, ◌+◌, ◌-◌, ◌*◌, ◌≤◌, ◌<◌}
 use native.Mathlib.Omega.{arith}
 use native.Mathlib.Decide.{dec_le}
@@ -6,13 +7,11 @@ use mathlib.Core.Path.{◌≡◌, refl, sym, ap, subst, ◌∙◌}
 use mathlib.Core.Logic.{◌⊎◌, inl, inr}
 use mathlib.Core.List.{List, [], ◌∷◌, ◌++◌, append-nil}
 use mathlib.Core.Bool.{Bool, true, false, cond, ◌&&◌, false≢true}
-use mathlib.Core.Option.{Option, none, some}
 use lib.Dec.{leb, ltb, eqb}
 use lib.ListN.{length, get_or, drop, length-append}
 use lib.IntN.{ℤ, pos, neg_ℤ, sub_ℕ, ◌+ℤ◌, ◌-ℤ◌}
 use borrow.Author.Tests.{le-leb, lt-leb, lt-ltb, ltb-true, eqb-true}
 use Rattle.numbers.specs.declared.decimals.DecimalRead.{DecimalRead}
-use Rattle.numbers.specs.declared.decimals.DecimalRead.TheVariants.{Nothing}
 use Rattle.abnf.specs.Accepts.{accepts}
 use Rattle.numbers.specs.Digits.{is_digit, numeral, number}
 use Rattle.numbers.specs.Grammar.{float-text}
@@ -27,7 +26,7 @@ use Rattle.numbers.proofs.Signs.{unsigned, minus-sign, unsigned-sign, resign, be
 use Rattle.numbers.proofs.FloatText.{text, Shaped, Shape, accepted_shape, exponent, e_no-digit, e_no-dot, starts, decimal_is}
 
 -- the reader of a text
-abbrev pub reader : List ℕ → DecimalRead
+abbrev pub reader : List ℕ → Option DecimalRead
 reader s = after_whole (minus s) (run 18 0 0 (unsigned s))
 
 -- a run of digits, and something else after it
@@ -67,26 +66,26 @@ shifted a b f n z e i =
     ∙ sub_eq (a + 0) (b + f) n 300 (omega arith))
 
 abbrev answer : Bool → ℕ → ℕ → ℤ → Option Scientific
-answer neg m f z = cond (between (neg_ℤ (pos 280)) (pos 280) z) (some (record { negative = neg; mantissa = m; exponent = z -ℤ pos f })) none
+answer neg m f z = cond (between (neg_ℤ (pos 280)) (pos 280) z) (Some (record { negative = neg; mantissa = m; exponent = z -ℤ pos f })) None
 
 module _ (neg : Bool) (m f : ℕ) (few : f ≤ 18) where
-  made_is : (n : ℕ) (z : ℤ) (b : Bool) → stands 300 n ≡ z -ℤ pos f → decimal_read (made neg m n b) ≡ some (record { negative = neg; mantissa = m; exponent = z -ℤ pos f })
-  made_is n z b e = ap (λ (y : ℤ). some (record { negative = neg; mantissa = m; exponent = y })) e
+  made_is : (n : ℕ) (z : ℤ) (b : Bool) → stands 300 n ≡ z -ℤ pos f → decimal_read (made neg m n b) ≡ Some (record { negative = neg; mantissa = m; exponent = z -ℤ pos f })
+  made_is n z b e = ap (λ (y : ℤ). Some (record { negative = neg; mantissa = m; exponent = y })) e
 
   -- an exponent of size e
-  sized : (below : Bool) (e : ℕ) → decimal_read (cond (leb e 280) (made neg m (cond below (300 - f - e) (300 - f + e)) false) Nothing) ≡ answer neg m f (signed below e)
+  sized : (below : Bool) (e : ℕ) → decimal_read (cond (leb e 280) (made neg m (cond below (300 - f - e) (300 - f + e)) false) None) ≡ answer neg m f (signed below e)
   sized true e =
       pick (dec_le e 280)
-      ∙ ap (λ (t : Bool). cond t (some (record { negative = neg; mantissa = m; exponent = signed true e -ℤ pos f })) none) (sym (between-minus 280 280 e))
+      ∙ ap (λ (t : Bool). cond t (Some (record { negative = neg; mantissa = m; exponent = signed true e -ℤ pos f })) None) (sym (between-minus 280 280 e))
     where
-      pick : Dec (e ≤ 280) → decimal_read (cond (leb e 280) (made neg m (300 - f - e) false) Nothing) ≡ cond (leb e 280) (some (record { negative = neg; mantissa = m; exponent = signed true e -ℤ pos f })) none
+      pick : Dec (e ≤ 280) → decimal_read (cond (leb e 280) (made neg m (300 - f - e) false) None) ≡ cond (leb e 280) (Some (record { negative = neg; mantissa = m; exponent = signed true e -ℤ pos f })) None
       pick (yes h) = rw (le-leb e 280 h) (made_is (300 - f - e) (signed true e) false (shifted 0 e f (300 - f - e) (signed true e) (neg-pos e) (omega arith)))
       pick (no h) = rw (lt-leb e 280 (omega arith))
   sized false e =
       pick (dec_le e 280)
-      ∙ ap (λ (t : Bool). cond t (some (record { negative = neg; mantissa = m; exponent = signed false e -ℤ pos f })) none) (sym (between-plus 280 280 e))
+      ∙ ap (λ (t : Bool). cond t (Some (record { negative = neg; mantissa = m; exponent = signed false e -ℤ pos f })) None) (sym (between-plus 280 280 e))
     where
-      pick : Dec (e ≤ 280) → decimal_read (cond (leb e 280) (made neg m (300 - f + e) false) Nothing) ≡ cond (leb e 280) (some (record { negative = neg; mantissa = m; exponent = signed false e -ℤ pos f })) none
+      pick : Dec (e ≤ 280) → decimal_read (cond (leb e 280) (made neg m (300 - f + e) false) None) ≡ cond (leb e 280) (Some (record { negative = neg; mantissa = m; exponent = signed false e -ℤ pos f })) None
       pick (yes h) = rw (le-leb e 280 h) (made_is (300 - f + e) (signed false e) false (shifted e 0 f (300 - f + e) (signed false e) (pos-sub e) (omega arith)))
       pick (no h) = rw (lt-leb e 280 (omega arith))
 
@@ -133,11 +132,11 @@ module _ (neg : Bool) (ws : List ℕ) (c : ℕ) (below : Bool) (es : List ℕ) w
       (whole_run (f ∷ fs) h (omega arith), lt-ltb 0 (length ws) p, run_through 18 (number ws) (length ws) (length ws + length (f ∷ fs)) (f ∷ fs) (powered c below es) h.behind (powered_stops c below h.letter es) refl l, lt-ltb (length ws) (length ws + length (f ∷ fs)) (omega arith), numeral-append 0 ws (f ∷ fs))
       (ap (λ (k : ℕ). ending neg (numeral (number ws) (f ∷ fs)) (length ws) k (powered c below es)) (let j : length ws + length (f ∷ fs) - length ws ≡ length (f ∷ fs) = omega arith in j))
 
-  pub long : (fs : List ℕ) → Shaped ws fs c es → 18 < length ws + length fs → after_whole neg (run 18 0 0 (ws ++ (dotted fs ++ powered c below es))) ≡ Nothing
+  pub long : (fs : List ℕ) → Shaped ws fs c es → 18 < length ws + length fs → after_whole neg (run 18 0 0 (ws ++ (dotted fs ++ powered c below es))) ≡ None
   unfolding after_whole after_fraction
   long fs h l = pick fs h l (dec_le (length ws) 18)
     where
-      pick : (gs : List ℕ) → Shaped ws gs c es → 18 < length ws + length gs → Dec (length ws ≤ 18) → after_whole neg (run 18 0 0 (ws ++ (dotted gs ++ powered c below es))) ≡ Nothing
+      pick : (gs : List ℕ) → Shaped ws gs c es → 18 < length ws + length gs → Dec (length ws ≤ 18) → after_whole neg (run 18 0 0 (ws ++ (dotted gs ++ powered c below es))) ≡ None
       pick gs k u (no n) = rw (run-over 18 0 0 ws (dotted gs ++ powered c below es) k.whole (omega arith) (omega arith))
       pick [] k u (yes n) = absurd (omega arith)
       pick (g ∷ gs) k u (yes n) =
@@ -157,14 +156,14 @@ on-text : (neg : Bool) (ws fs : List ℕ) (c : ℕ) (below : Bool) (es : List �
 on-text neg ws fs c below es h =
     ap decimal_read (reader-sign neg ws fs c below es h) ∙ pick (dec_le (length ws + length fs) 18) ∙ sym (decimal_is neg ws fs c below es h)
   where
-    pick : Dec (length ws + length fs ≤ 18) → decimal_read (after_whole neg (run 18 0 0 (ws ++ (dotted fs ++ powered c below es)))) ≡ cond (leb (length (ws ++ fs)) 18 && between (neg_ℤ (pos 280)) (pos 280) (exponent below es)) (some (record { negative = neg; mantissa = number (ws ++ fs); exponent = exponent below es -ℤ pos (length fs) })) none
+    pick : Dec (length ws + length fs ≤ 18) → decimal_read (after_whole neg (run 18 0 0 (ws ++ (dotted fs ++ powered c below es)))) ≡ cond (leb (length (ws ++ fs)) 18 && between (neg_ℤ (pos 280)) (pos 280) (exponent below es)) (Some (record { negative = neg; mantissa = number (ws ++ fs); exponent = exponent below es -ℤ pos (length fs) })) None
     pick (yes l) =
         ap decimal_read (short neg ws c below es fs h l)
         ∙ ending_is neg (number (ws ++ fs)) (length fs) (omega arith) (length ws) c below es h.letter h.exponent h.short
         ∙ rw (le-leb (length (ws ++ fs)) 18 (omega (arith, length-append ws fs)))
     pick (no l) = ap decimal_read (long neg ws c below es fs h (omega arith)) ∙ rw (lt-leb (length (ws ++ fs)) 18 (omega (arith, length-append ws fs)))
 
--- what the reader accepts has these parts: each function answers `Nothing`, or its text is of its form
+-- what the reader accepts has these parts: each function answers `None`, or its text is of its form
 record Cut (limit v n : ℕ) (s : List ℕ) : Type 0 where
   ds : List ℕ
   r : List ℕ
@@ -197,7 +196,7 @@ run_cases limit v n (d ∷ s) =
         })
 
 -- a test before an answer
-cond_cases {ℓ} : {X : Type ℓ} (b : Bool) (a : DecimalRead) → (b ≡ true → (a ≡ Nothing) ⊎ X) → (cond b a Nothing ≡ Nothing) ⊎ X
+cond_cases {ℓ} : {X : Type ℓ} (b : Bool) (a : Option DecimalRead) → (b ≡ true → (a ≡ None) ⊎ X) → (cond b a None ≡ None) ⊎ X
 cond_cases true a f = f refl
 cond_cases false a f = inl refl
 
@@ -206,11 +205,11 @@ record Digited (s : List ℕ) : Type 0 where
   some : 0 < length s
   few : length s ≤ 3
 
-power_cases : (neg : Bool) (m f : ℕ) (below : Bool) (t : List ℕ) → (after_power neg m f below (run 3 0 0 t) ≡ Nothing) ⊎ Digited t
+power_cases : (neg : Bool) (m f : ℕ) (below : Bool) (t : List ℕ) → (after_power neg m f below (run 3 0 0 t) ≡ None) ⊎ Digited t
 unfolding after_power
 power_cases neg m f below t = pick (run_cases 3 0 0 t)
   where
-    last : (k : Cut 3 0 0 t) (r : List ℕ) → k.r ≡ r → (after_power neg m f below (found (numeral 0 k.ds) (0 + length k.ds) r) ≡ Nothing) ⊎ Digited t
+    last : (k : Cut 3 0 0 t) (r : List ℕ) → k.r ≡ r → (after_power neg m f below (found (numeral 0 k.ds) (0 + length k.ds) r) ≡ None) ⊎ Digited t
     last k (b ∷ r) e = inl refl
     last k [] e =
         cond_cases (ltb 0 (0 + length k.ds) && leb (numeral 0 k.ds) 280) _
@@ -220,9 +219,9 @@ power_cases neg m f below t = pick (run_cases 3 0 0 t)
         let c : t ≡ k.ds = k.cut ∙ ap (λ (l : List ℕ). k.ds ++ l) e ∙ append-nil k.ds in
         inr (subst Digited (sym c) (record { all = k.all; some = omega arith; few = omega arith })))
 
-    pick : (run 3 0 0 t ≡ over) ⊎ Cut 3 0 0 t → (after_power neg m f below (run 3 0 0 t) ≡ Nothing) ⊎ Digited t
+    pick : (run 3 0 0 t ≡ over) ⊎ Cut 3 0 0 t → (after_power neg m f below (run 3 0 0 t) ≡ None) ⊎ Digited t
     pick (inl o) = inl (rw o)
-    pick (inr k) = subst (λ (x : Found). (after_power neg m f below x ≡ Nothing) ⊎ Digited t) (sym k.is) (last k k.r refl)
+    pick (inr k) = subst (λ (x : Found). (after_power neg m f below x ≡ None) ⊎ Digited t) (sym k.is) (last k k.r refl)
 
 powered_by : (c : ℕ) (below : Bool) (es : List ℕ) → is_e c ≡ true → Digited es → Powered (c ∷ (sign below ++ es))
 powered_by c below [] i d = let l = d.some in absurd (omega arith)
@@ -232,7 +231,7 @@ first_byte : (k : ℕ) (s : List ℕ) → eqb 0 k ≡ false → eqb (get_or s 0 
 first_byte k [] z e = absurd (false≢true (sym z ∙ e))
 first_byte k (b ∷ s) z e = ap (λ (c : ℕ). c ∷ s) (eqb-true b k e)
 
-ending_cases : (neg : Bool) (m n f : ℕ) (t : List ℕ) → (ending neg m n f t ≡ Nothing) ⊎ Powered t
+ending_cases : (neg : Bool) (m n f : ℕ) (t : List ℕ) → (ending neg m n f t ≡ None) ⊎ Powered t
 unfolding ending after_digits
 ending_cases neg m n f [] = inr (record { c = 101; neg = false; es = []; letter = refl; all = no-digits; few = omega arith; cut = refl })
 ending_cases neg m n f (c ∷ cs) =
@@ -242,11 +241,11 @@ ending_cases neg m n f (c ∷ cs) =
     (λ e. rw e (below i e (power_cases neg m f true (drop 1 cs))))
     (λ e. rw e (above i (power_cases neg m f false cs))))
   where
-    below : is_e c ≡ true → eqb (get_or cs 0 0) 45 ≡ true → (after_power neg m f true (run 3 0 0 (drop 1 cs)) ≡ Nothing) ⊎ Digited (drop 1 cs) → (after_power neg m f true (run 3 0 0 (drop 1 cs)) ≡ Nothing) ⊎ Powered (c ∷ cs)
+    below : is_e c ≡ true → eqb (get_or cs 0 0) 45 ≡ true → (after_power neg m f true (run 3 0 0 (drop 1 cs)) ≡ None) ⊎ Digited (drop 1 cs) → (after_power neg m f true (run 3 0 0 (drop 1 cs)) ≡ None) ⊎ Powered (c ∷ cs)
     below i e (inl q) = inl q
     below i e (inr d) = inr (subst (λ (l : List ℕ). Powered (c ∷ l)) (sym (first_byte 45 cs refl e)) (powered_by c true (drop 1 cs) i d))
 
-    above : is_e c ≡ true → (after_power neg m f false (run 3 0 0 cs) ≡ Nothing) ⊎ Digited cs → (after_power neg m f false (run 3 0 0 cs) ≡ Nothing) ⊎ Powered (c ∷ cs)
+    above : is_e c ≡ true → (after_power neg m f false (run 3 0 0 cs) ≡ None) ⊎ Digited cs → (after_power neg m f false (run 3 0 0 cs) ≡ None) ⊎ Powered (c ∷ cs)
     above i (inl q) = inl q
     above i (inr d) = inr (powered_by c false cs i d)
 
@@ -259,18 +258,18 @@ record Behind (t : List ℕ) : Type 0 where
   rest : Powered r
   cut : t ≡ fs ++ r
 
-fraction_cases : (neg : Bool) (m n : ℕ) (t : List ℕ) → (after_fraction neg n (run 18 m n t) ≡ Nothing) ⊎ Behind t
+fraction_cases : (neg : Bool) (m n : ℕ) (t : List ℕ) → (after_fraction neg n (run 18 m n t) ≡ None) ⊎ Behind t
 unfolding after_fraction
 fraction_cases neg m n t = pick (run_cases 18 m n t)
   where
-    ended : (k : Cut 18 m n t) (e : ℕ) → n < n + length k.ds → (ending neg (numeral m k.ds) n e k.r ≡ Nothing) ⊎ Powered k.r → (ending neg (numeral m k.ds) n e k.r ≡ Nothing) ⊎ Behind t
+    ended : (k : Cut 18 m n t) (e : ℕ) → n < n + length k.ds → (ending neg (numeral m k.ds) n e k.r ≡ None) ⊎ Powered k.r → (ending neg (numeral m k.ds) n e k.r ≡ None) ⊎ Behind t
     ended k e l (inl i) = inl i
     ended k e l (inr p) = inr (record { fs = k.ds; r = k.r; all = k.all; some = omega arith; rest = p; cut = k.cut })
 
-    pick : (run 18 m n t ≡ over) ⊎ Cut 18 m n t → (after_fraction neg n (run 18 m n t) ≡ Nothing) ⊎ Behind t
+    pick : (run 18 m n t ≡ over) ⊎ Cut 18 m n t → (after_fraction neg n (run 18 m n t) ≡ None) ⊎ Behind t
     pick (inl o) = inl (rw o)
     pick (inr k) =
-        subst (λ (x : Found). (after_fraction neg n x ≡ Nothing) ⊎ Behind t) (sym k.is)
+        subst (λ (x : Found). (after_fraction neg n x ≡ None) ⊎ Behind t) (sym k.is)
         (cond_cases (ltb n (n + length k.ds)) _
         (λ q. ended k (n + length k.ds - n) (ltb-true n (n + length k.ds) q) (ending_cases neg (numeral m k.ds) n (n + length k.ds - n) k.r)))
 
@@ -285,11 +284,11 @@ record Unsigned (t : List ℕ) : Type 0 where
   rest : Powered r
   cut : t ≡ ws ++ (dotted fs ++ r)
 
-whole_cases : (neg : Bool) (t : List ℕ) → (after_whole neg (run 18 0 0 t) ≡ Nothing) ⊎ Unsigned t
+whole_cases : (neg : Bool) (t : List ℕ) → (after_whole neg (run 18 0 0 t) ≡ None) ⊎ Unsigned t
 unfolding after_whole
 whole_cases neg t = pick (run_cases 18 0 0 t)
   where
-    dot : (k : Cut 18 0 0 t) (a : DecimalRead) → 0 < 0 + length k.ds → eqb (get_or k.r 0 0) 46 ≡ true → (a ≡ Nothing) ⊎ Behind (drop 1 k.r) → (a ≡ Nothing) ⊎ Unsigned t
+    dot : (k : Cut 18 0 0 t) (a : Option DecimalRead) → 0 < 0 + length k.ds → eqb (get_or k.r 0 0) 46 ≡ true → (a ≡ None) ⊎ Behind (drop 1 k.r) → (a ≡ None) ⊎ Unsigned t
     dot k a l e (inl i) = inl i
     dot k a l e (inr b) =
         inr
@@ -304,24 +303,24 @@ whole_cases neg t = pick (run_cases 18 0 0 t)
           cut = k.cut ∙ ap (λ (l : List ℕ). k.ds ++ l) (first_byte 46 k.r refl e ∙ ap (λ (l : List ℕ). 46 ∷ l) b.cut ∙ dotted-some b.fs b.r b.some);
         })
 
-    plain : (k : Cut 18 0 0 t) (a : DecimalRead) → 0 < 0 + length k.ds → (a ≡ Nothing) ⊎ Powered k.r → (a ≡ Nothing) ⊎ Unsigned t
+    plain : (k : Cut 18 0 0 t) (a : Option DecimalRead) → 0 < 0 + length k.ds → (a ≡ None) ⊎ Powered k.r → (a ≡ None) ⊎ Unsigned t
     plain k a l (inl i) = inl i
     plain k a l (inr p) = inr (record { ws = k.ds; fs = []; all = k.all; some = omega arith; behind = no-digits; r = k.r; rest = p; cut = k.cut })
 
-    after : (k : Cut 18 0 0 t) → 0 < 0 + length k.ds → (b : Bool) → eqb (get_or k.r 0 0) 46 ≡ b → (cond b (after_fraction neg (0 + length k.ds) (run 18 (numeral 0 k.ds) (0 + length k.ds) (drop 1 k.r))) (ending neg (numeral 0 k.ds) (0 + length k.ds) 0 k.r) ≡ Nothing) ⊎ Unsigned t
+    after : (k : Cut 18 0 0 t) → 0 < 0 + length k.ds → (b : Bool) → eqb (get_or k.r 0 0) 46 ≡ b → (cond b (after_fraction neg (0 + length k.ds) (run 18 (numeral 0 k.ds) (0 + length k.ds) (drop 1 k.r))) (ending neg (numeral 0 k.ds) (0 + length k.ds) 0 k.r) ≡ None) ⊎ Unsigned t
     after k l true e = dot k _ l e (fraction_cases neg (numeral 0 k.ds) (0 + length k.ds) (drop 1 k.r))
     after k l false e = plain k _ l (ending_cases neg (numeral 0 k.ds) (0 + length k.ds) 0 k.r)
 
-    pick : (run 18 0 0 t ≡ over) ⊎ Cut 18 0 0 t → (after_whole neg (run 18 0 0 t) ≡ Nothing) ⊎ Unsigned t
+    pick : (run 18 0 0 t ≡ over) ⊎ Cut 18 0 0 t → (after_whole neg (run 18 0 0 t) ≡ None) ⊎ Unsigned t
     pick (inl o) = inl (rw o)
     pick (inr k) =
-        subst (λ (x : Found). (after_whole neg x ≡ Nothing) ⊎ Unsigned t) (sym k.is)
+        subst (λ (x : Found). (after_whole neg x ≡ None) ⊎ Unsigned t) (sym k.is)
         (cond_cases (ltb 0 (0 + length k.ds)) _ (λ q. after k (ltb-true 0 (0 + length k.ds) q) (eqb (get_or k.r 0 0) 46) refl))
 
-pub reader_cases : (s : List ℕ) → (reader s ≡ Nothing) ⊎ Shape s
+pub reader_cases : (s : List ℕ) → (reader s ≡ None) ⊎ Shape s
 reader_cases s = pick (whole_cases (minus s) (unsigned s))
   where
-    pick : (reader s ≡ Nothing) ⊎ Unsigned (unsigned s) → (reader s ≡ Nothing) ⊎ Shape s
+    pick : (reader s ≡ None) ⊎ Unsigned (unsigned s) → (reader s ≡ None) ⊎ Shape s
     pick (inl i) = inl i
     pick (inr u) =
         let p = u.rest in
@@ -341,7 +340,7 @@ reader_cases s = pick (whole_cases (minus s) (unsigned s))
 on_shape : (s : List ℕ) → Shape s → decimal_read (reader s) ≡ decimal s
 on_shape s h = subst (λ (l : List ℕ). decimal_read (reader l) ≡ decimal l) (sym h.cut) (on-text h.neg h.ws h.fs h.c h.below h.es h.shaped)
 
-not_accepted : (s : List ℕ) → accepts float-text s ≡ false → none ≡ decimal s
+not_accepted : (s : List ℕ) → accepts float-text s ≡ false → None ≡ decimal s
 unfolding decimal
 not_accepted s e = rw e
 
@@ -351,12 +350,12 @@ reads s =
     (λ e. on_shape s (accepted_shape s e))
     (λ e. pick e (reader_cases s))
   where
-    pick : accepts float-text s ≡ false → (reader s ≡ Nothing) ⊎ Shape s → decimal_read (reader s) ≡ decimal s
+    pick : accepts float-text s ≡ false → (reader s ≡ None) ⊎ Shape s → decimal_read (reader s) ≡ decimal s
     pick e (inl i) = ap decimal_read i ∙ not_accepted s e
     pick e (inr h) = on_shape s h
 
 -- the returns of `read_decimal` are the reader's
-module _ (s : List ℕ) (d : DecimalRead) (p : Bool) (has : p ≡ minus s) where
+module _ (s : List ℕ) (d : Option DecimalRead) (p : Bool) (has : p ≡ minus s) where
   pub read_below : p ≡ true → d ≡ after_whole true (run 18 0 0 (drop 1 s)) → d ≡ reader s
   read_below t e = let i : after_whole true (run 18 0 0 (drop 1 s)) ≡ reader s = rw (← has, t) in e ∙ i
 

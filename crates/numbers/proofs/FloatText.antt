@@ -1,10 +1,10 @@
 -- What the rules say of a float's text, by its parts.
+use Rattle.std.specs.Prelude.{None, Some}
 use Prim.Native.Nat.{ℕ, ◌≤◌, ◌<◌}
 use native.Mathlib.Omega.{arith}
 use mathlib.Core.Path.{◌≡◌, refl, sym, ap, ◌∙◌}
 use mathlib.Core.List.{List, [], ◌∷◌, ◌++◌, append-nil}
 use mathlib.Core.Bool.{Bool, true, false, cond, ◌&&◌, false≢true}
-use mathlib.Core.Option.{none, some}
 use lib.Dec.{leb, eqb}
 use lib.ListN.{length, get_or}
 use lib.IntN.{ℤ, pos, neg_ℤ, ◌-ℤ◌}
@@ -199,7 +199,7 @@ module _ (neg : Bool) (ws fs : List ℕ) (c : ℕ) (below : Bool) (es : List ℕ
   pub starts : is_digit (get_or (ws ++ (dotted fs ++ powered c below es)) 0 0) ≡ true
   starts = first-digit ws (dotted fs ++ powered c below es) h.whole h.some-whole
 
-  pub decimal_is : decimal (text neg ws fs c below es) ≡ cond (leb (length (ws ++ fs)) 18 && between (neg_ℤ (pos 280)) (pos 280) (exponent below es)) (some (record { negative = neg; mantissa = number (ws ++ fs); exponent = exponent below es -ℤ pos (length fs) })) none
+  pub decimal_is : decimal (text neg ws fs c below es) ≡ cond (leb (length (ws ++ fs)) 18 && between (neg_ℤ (pos 280)) (pos 280) (exponent below es)) (Some (record { negative = neg; mantissa = number (ws ++ fs); exponent = exponent below es -ℤ pos (length fs) })) None
   unfolding decimal
   decimal_is =
       rw (shape-accepts, significant_is, fraction_is, power_is, minus-sign neg (ws ++ (dotted fs ++ powered c below es)) starts)

@@ -1,19 +1,18 @@
 -- `integer` by digits alone after the sign, and the returns of `read_integer`.
+use Rattle.std.specs.Prelude.{Option, None, Some}
 use Prim.Native.Nat.{ℕ, ◌+◌, ◌-◌, ◌^◌, ◌≤◌, ◌<◌}
 use native.Mathlib.Omega.{arith}
 use mathlib.Core.Path.{◌≡◌, refl, sym, ap, subst, ◌∙◌}
 use mathlib.Core.List.{List, [], ◌++◌, append-nil}
 use mathlib.Core.Bool.{Bool, true, false, cond, ◌&&◌}
-use mathlib.Core.Option.{Option, none, some}
 use lib.Dec.{leb, ltb}
-use lib.ListN.{length, get_or, drop}
+use lib.ListN.{length, get_or, drop, take, length-drop}
+use lib.Seq.{take_all}
 use lib.IntN.{ℤ}
 use borrow.Author.Tests.{le-leb, lt-leb, leb-true, leb-false, lt-ltb, ltb-true}
 use Rattle.abnf.specs.Abnf as A
 use Rattle.abnf.specs.Abnf.{no_rules}
 use Rattle.abnf.proofs.Lead.{Lead, whole-lead, lead-whole}
-use Rattle.numbers.specs.declared.integers.Natural.{Natural}
-use Rattle.numbers.specs.declared.integers.Natural.TheVariants.{Number, NotOne}
 use Rattle.numbers.specs.Digits.{is_digit, digits, number}
 use Rattle.numbers.specs.Grammar.{DIGIT, integer-text}
 use Rattle.abnf.specs.Accepts.{accepts}
@@ -60,7 +59,7 @@ value_is s e =
 
 -- the integer of a text, by its parts
 abbrev pub parted : Bool → List ℕ → Option ℤ
-parted neg t = cond (some_digits t && is_64_bit (signed neg (number t))) (some (signed neg (number t))) none
+parted neg t = cond (some_digits t && is_64_bit (signed neg (number t))) (Some (signed neg (number t))) None
 
 integer_is : (s : List ℕ) → integer s ≡ parted (minus s) (unsigned s)
 unfolding integer
@@ -70,20 +69,20 @@ integer_is s =
     (λ e. rw (text_is s, e))
 
 -- what `natural` answers
-natural-number : (t : List ℕ) (m : ℕ) → natural t ≡ Number m → (some_digits t ≡ true) × (number t ≡ m) × (m ≤ 2 ^ 63)
+natural-number : (t : List ℕ) (m : ℕ) → natural t ≡ Some m → (some_digits t ≡ true) × (number t ≡ m) × (m ≤ 2 ^ 63)
 unfolding natural
 natural-number t m e = pick (some_digits t) (leb (number t) (2 ^ 63)) refl refl e
   where
-    pick : (a b : Bool) → some_digits t ≡ a → leb (number t) (2 ^ 63) ≡ b → cond (a && b) (Number (number t)) NotOne ≡ Number m → (some_digits t ≡ true) × (number t ≡ m) × (m ≤ 2 ^ 63)
+    pick : (a b : Bool) → some_digits t ≡ a → leb (number t) (2 ^ 63) ≡ b → cond (a && b) (Some (number t)) None ≡ Some m → (some_digits t ≡ true) × (number t ≡ m) × (m ≤ 2 ^ 63)
     pick true true p q i = let n : number t ≡ m = cc in (p, n, subst (λ (k : ℕ). k ≤ 2 ^ 63) n (leb-true (number t) (2 ^ 63) q))
     pick true false p q i = let z : ◌≡◌ {A = ℕ} 0 1 = cc in absurd (omega arith)
     pick false b p q i = let z : ◌≡◌ {A = ℕ} 0 1 = cc in absurd (omega arith)
 
-natural-none : (t : List ℕ) → natural t ≡ NotOne → (some_digits t && leb (number t) (2 ^ 63)) ≡ false
+natural-none : (t : List ℕ) → natural t ≡ None → (some_digits t && leb (number t) (2 ^ 63)) ≡ false
 unfolding natural
 natural-none t e = pick (some_digits t && leb (number t) (2 ^ 63)) e
   where
-    pick : (b : Bool) → cond b (Number (number t)) NotOne ≡ NotOne → b ≡ false
+    pick : (b : Bool) → cond b (Some (number t)) None ≡ None → b ≡ false
     pick true i = let z : ◌≡◌ {A = ℕ} 0 1 = cc in absurd (omega arith)
     pick false i = refl
 
@@ -92,41 +91,44 @@ beyond : (a : Bool) (n : ℕ) → (a && leb n (2 ^ 63)) ≡ false → (a && leb 
 beyond false n e = refl
 beyond true n e = lt-leb n (2 ^ 63 - 1) (let l : 2 ^ 63 < n = leb-false n (2 ^ 63) e in omega arith)
 
-parted-minus : (t : List ℕ) → parted true t ≡ cond (some_digits t && leb (number t) (2 ^ 63)) (some (signed true (number t))) none
-parted-minus t = ap (λ (b : Bool). cond (some_digits t && b) (some (signed true (number t))) none) (between-minus (2 ^ 63) (2 ^ 63 - 1) (number t))
+parted-minus : (t : List ℕ) → parted true t ≡ cond (some_digits t && leb (number t) (2 ^ 63)) (Some (signed true (number t))) None
+parted-minus t = ap (λ (b : Bool). cond (some_digits t && b) (Some (signed true (number t))) None) (between-minus (2 ^ 63) (2 ^ 63 - 1) (number t))
 
-parted-plus : (t : List ℕ) → parted false t ≡ cond (some_digits t && leb (number t) (2 ^ 63 - 1)) (some (signed false (number t))) none
-parted-plus t = ap (λ (b : Bool). cond (some_digits t && b) (some (signed false (number t))) none) (between-plus (2 ^ 63) (2 ^ 63 - 1) (number t))
+parted-plus : (t : List ℕ) → parted false t ≡ cond (some_digits t && leb (number t) (2 ^ 63 - 1)) (Some (signed false (number t))) None
+parted-plus t = ap (λ (b : Bool). cond (some_digits t && b) (Some (signed false (number t))) None) (between-plus (2 ^ 63) (2 ^ 63 - 1) (number t))
 
-module _ (s : List ℕ) (neg : Bool) (r : Natural) (has : neg ≡ minus s) where
-  module _ (yes : neg ≡ true) (got : r ≡ natural (drop 1 s)) where
+module _ (s : List ℕ) (neg : Bool) (r : Option ℕ) (has : neg ≡ minus s) where
+  module _ (yes : neg ≡ true) (read : r ≡ natural (take (length s - 1) (drop 1 s))) where
+    got : r ≡ natural (drop 1 s)
+    got = read ∙ ap natural (take_all (length s - 1) (drop 1 s) (rw (length-drop 1 s) (omega arith)))
+
     shape-minus : integer s ≡ parted true (drop 1 s)
     shape-minus = integer_is s ∙ rw (← has, yes)
 
-    pub minus-fits : (m : ℕ) → r ≡ Number m → m ≤ 2 ^ 63
+    pub minus-fits : (m : ℕ) → r ≡ Some m → m ≤ 2 ^ 63
     minus-fits m is = (natural-number (drop 1 s) m (sym got ∙ is)).2
 
-    pub minus_number : (m : ℕ) → r ≡ Number m → some (stands (2 ^ 63) (2 ^ 63 - m)) ≡ integer s
+    pub minus_number : (m : ℕ) → r ≡ Some m → Some (stands (2 ^ 63) (2 ^ 63 - m)) ≡ integer s
     minus_number m is =
         let p = natural-number (drop 1 s) m (sym got ∙ is) in
-        sym (shape-minus ∙ parted-minus (drop 1 s) ∙ rw (p.0, p.1, le-leb m (2 ^ 63) p.2) (ap some (sym (stands-minus (2 ^ 63) m p.2))))
+        sym (shape-minus ∙ parted-minus (drop 1 s) ∙ rw (p.0, p.1, le-leb m (2 ^ 63) p.2) (ap Some (sym (stands-minus (2 ^ 63) m p.2))))
 
-    pub minus-none : r ≡ NotOne → none ≡ integer s
+    pub minus-none : r ≡ None → None ≡ integer s
     minus-none is = sym (shape-minus ∙ parted-minus (drop 1 s) ∙ rw (natural-none (drop 1 s) (sym got ∙ is)))
 
-  module _ (no : neg ≡ false) (got : r ≡ natural (drop 0 s)) where
+  module _ (no : neg ≡ false) (got : r ≡ natural s) where
     shape-plus : integer s ≡ parted false s
     shape-plus = integer_is s ∙ rw (← has, no)
 
-    pub plus-number : (m : ℕ) → r ≡ Number m → m < 2 ^ 63 → some (stands (2 ^ 63) (2 ^ 63 + m)) ≡ integer s
+    pub plus-number : (m : ℕ) → r ≡ Some m → m < 2 ^ 63 → Some (stands (2 ^ 63) (2 ^ 63 + m)) ≡ integer s
     plus-number m is l =
         let p = natural-number s m (sym got ∙ is) in
-        sym (shape-plus ∙ parted-plus s ∙ rw (p.0, p.1, le-leb m (2 ^ 63 - 1) (omega arith)) (ap some (sym (stands-plus (2 ^ 63) m))))
+        sym (shape-plus ∙ parted-plus s ∙ rw (p.0, p.1, le-leb m (2 ^ 63 - 1) (omega arith)) (ap Some (sym (stands-plus (2 ^ 63) m))))
 
-    pub plus-high : (m : ℕ) → r ≡ Number m → 2 ^ 63 ≤ m → none ≡ integer s
+    pub plus-high : (m : ℕ) → r ≡ Some m → 2 ^ 63 ≤ m → None ≡ integer s
     plus-high m is l =
         let p = natural-number s m (sym got ∙ is) in
         sym (shape-plus ∙ parted-plus s ∙ rw (p.0, p.1, lt-leb m (2 ^ 63 - 1) (omega arith)))
 
-    pub plus_none : r ≡ NotOne → none ≡ integer s
+    pub plus_none : r ≡ None → None ≡ integer s
     plus_none is = sym (shape-plus ∙ parted-plus s ∙ rw (beyond (some_digits s) (number s) (natural-none s (sym got ∙ is))))

@@ -1,9 +1,7 @@
 pub mod Difference
 pub mod Rounding
 pub mod Bounds
-pub mod Biased
 pub mod Order
-pub mod Held
 pub mod Naturals
 pub mod Runs
 pub mod Endings

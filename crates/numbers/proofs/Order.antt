@@ -4,7 +4,7 @@ use mathlib.Core.Path.{◌≡◌, refl, ap, ◌∙◌, sym, subst}
 use mathlib.Core.Bool.{Bool, true, false}
 use native.Mathlib.Omega.{arith}
 use native.Mathlib.Decide.{dec_lt, ℕ_discrete}
-use native.Mathlib.Nat.{pow-zero, pow-succ', one-le-pow, mul_assoc, mul_comm, mul_right_comm, mul-le-mul_right, le_of_mul-le-mul_right, le-mul_of_pos_right, zero-mul, mul-one, add-mul, zero-div, div-one, div-div-eq-div-mul, le-div_iff_mul-le, div-lt_iff_lt-mul}
+use native.Mathlib.Nat.{one-le-pow, pow-le-pow_right, mul_assoc, mul_comm, mul_right_comm, mul-le-mul_right, le_of_mul-le-mul_right, le-mul_of_pos_right, zero-mul, mul-one, add-mul, div-eq_of_lt, le-div_iff_mul-le, div-lt_iff_lt-mul}
 use lib.Dec.{leb, ltb, eqb, lit<}
 use lib.Pow.{pow-add}
 use lib.IntN.{ℤ, pos, neg_ℤ, sub_ℕ, ◌*ℤ◌}
@@ -19,28 +19,9 @@ use Rattle.numbers.proofs.Difference.{leb_eq, pos-sub, neg-pos, le-sub, sub_lt, 
 pub tens : (k : ℕ) → 0 < 10 ^ k
 tens k = one-le-pow k 10 (lit< tt)
 
--- x without its last k digits, i of which are still there in y
-pub record Shifting (x k y i : ℕ) : Type 0 where
-  pub same : y / 10 ^ i ≡ x / 10 ^ k
-
-pub begin : (x k : ℕ) → Shifting x k x k
-begin x k = record { same = refl }
-
-module _ {x k y i : ℕ} (so_far : Shifting x k y i) where
-  pub ends : i ≤ 0 → y ≡ x / 10 ^ k
-  ends h = sym (ap (λ (n : ℕ). y / 10 ^ n) (none i h) ∙ ap (λ (n : ℕ). y / n) (pow-zero 10) ∙ div-one y) ∙ so_far.same
-    where
-      none : (n : ℕ) → n ≤ 0 → n ≡ 0
-      none n g = omega arith
-
-  pub no_more : y ≡ 0 → 0 ≡ x / 10 ^ k
-  no_more e = sym (ap (λ (n : ℕ). n / 10 ^ i) e ∙ zero-div (10 ^ i)) ∙ so_far.same
-
-  pub one_less : 0 < i → Shifting x k (y / 10) (i - 1)
-  one_less h = record { same = div-div-eq-div-mul y 10 (10 ^ (i - 1)) ∙ ap (λ (n : ℕ). y / n) (power i h) ∙ so_far.same }
-    where
-      power : (n : ℕ) → 0 < n → 10 * 10 ^ (n - 1) ≡ 10 ^ n
-      power n g = let e : suc (n - 1) ≡ n = omega arith in sym (pow-succ' 10 (n - 1)) ∙ ap (λ (m : ℕ). 10 ^ m) e
+-- a u64 has at most 20 digits
+pub no_more : (x k : ℕ) → x < 2 ^ 64 → 19 < k → 0 ≡ x / 10 ^ k
+no_more x k h m = let l : 10 ^ 20 ≤ 10 ^ k = pow-le-pow_right (lit< tt) {i = 20} {j = k} m in sym (div-eq_of_lt (omega arith))
 
 -- the three returns of `size_le`
 module _ (a ea b eb : ℕ) where
@@ -55,9 +36,6 @@ module _ (a ea b eb : ℕ) where
       (λ l. mul-le-mul_right (10 ^ eb) ((le-div_iff_mul-le (tens (ea - eb))).0 l))
       (λ l. (le-div_iff_mul-le (tens (ea - eb))).1 (le_of_mul-le-mul_right l (tens eb)))
       ∙ ap (λ (n : ℕ). leb n (b * 10 ^ eb)) (sym t)
-
-  pub nothing : a ≡ 0 → true ≡ leb (a * 10 ^ ea) (b * 10 ^ eb)
-  nothing h = sym (le-leb (a * 10 ^ ea) (b * 10 ^ eb) (rw (h, zero-mul) (omega arith)))
 
   pub right_higher : (q : ℕ) → q ≡ (a - 1) / 10 ^ (eb - ea) → ea ≤ eb → (a ≡ 0 → ⊥) → ltb q b ≡ leb (a * 10 ^ ea) (b * 10 ^ eb)
   right_higher q is h z =
@@ -177,9 +155,6 @@ module _ (a b : Decimal) where
   -- the five returns of `decimal_le`
   pub below-zero : (r : Bool) → a.negative ≡ true → b.negative ≡ true → r ≡ leb (b.mantissa * 10 ^ b.exponent) (a.mantissa * 10 ^ a.exponent) → r ≡ le_q (ratio (exact a)) (ratio (exact b))
   below-zero r h k e = e ∙ sym (in_units a b ∙ rw (h, k) (minus_minus (a.mantissa * 10 ^ a.exponent) (b.mantissa * 10 ^ b.exponent)))
-
-  pub across : a.negative ≡ true → b.negative ≡ false → true ≡ le_q (ratio (exact a)) (ratio (exact b))
-  across h k = sym (in_units a b ∙ rw (h, k) (minus_plus (a.mantissa * 10 ^ a.exponent) (b.mantissa * 10 ^ b.exponent)))
 
   pub zeros : a.negative ≡ false → b.negative ≡ true → a.mantissa ≡ 0 → eqb b.mantissa 0 ≡ le_q (ratio (exact a)) (ratio (exact b))
   zeros h k z =

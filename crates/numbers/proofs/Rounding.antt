@@ -34,9 +34,6 @@ under {v} {b} {s} h l e = record {
   sum = omega (arith, div-add-mod' (b - v) s, suc-mul ((b - v) / s) s, mod-lt (b - v) h);
 }
 
-pub under-fits : (x s : ℕ) → 0 < s → x % s ≤ s
-under-fits x s h = omega (arith, mod-lt x h)
-
 module _ {v b s r : ℕ} (past : Past v b s r) (k : ℕ) where
   inner : pos 2 *ℤ (sub_ℕ v k -ℤ sub_ℕ b k) +ℤ pos s ≡ sub_ℕ (2 * (v + k) + s) (2 * (k + b) + 0)
   inner =

@@ -1,39 +1,33 @@
 -- A number of the shape as whole billionths: it is the exact decimal times 10^9, and below 10^18.
-use Prim.Native.Nat.{ℕ, zero, suc, ◌+◌, ◌-◌, ◌*◌, ◌^◌, ◌≤◌, ◌<◌}
+use Rattle.std.specs.Prelude.{None, Some}
+use Prim.Native.Nat.{ℕ, ◌+◌, ◌-◌, ◌*◌, ◌^◌, ◌≤◌, ◌<◌}
 use native.Mathlib.Omega.{arith}
-use native.Mathlib.Nat.{mul_assoc, mul_comm, one-mul, mul-one, pow-suc, pow-succ', pow-le-pow_right, mul-le-mul_right, add-mul}
+use native.Mathlib.Nat.{mul_assoc, mul_comm, one-mul, mul-one, pow-suc, pow-le-pow_right, mul-le-mul_right, add-mul}
 use mathlib.Core.Path.{◌≡◌, refl, sym, ap, ◌∙◌}
 use mathlib.Core.Logic.{◌↔◌}
 use mathlib.Core.List.{List, [], ◌∷◌, ◌++◌}
 use mathlib.Core.Bool.{Bool, true, false, cond, and-true}
-use mathlib.Core.Option.{none, some}
 use lib.Dec.{leb, lit<}
 use lib.Pow.{pow-add}
-use lib.ListN.{length, get_or, length-append}
+use lib.ListN.{length, length-append}
 use lib.IntN.{ℤ, pos, sub_ℕ, ◌+ℤ◌, ◌-ℤ◌}
 use lib.Signed.{le_z}
-use mir.Syntax.{w64}
-use mir.Val.{Fits}
 use borrow.Author.Tests.{le-leb, leb-true}
 use Rattle.abnf.specs.Abnf.{◌∈◌}
 use Rattle.abnf.specs.Accepts.{accepts}
 use Rattle.abnf.proofs.Accepts.{word-accepts}
 use Rattle.abnf.proofs.Steps.{both}
 use Rattle.numbers.specs.declared.decimals.Decimal.{Decimal}
-use Rattle.numbers.specs.declared.decimals.DecimalRead.TheVariants.{Exact}
-use Rattle.numbers.specs.declared.integers.IntegerRead.TheVariants.{Value}
 use Rattle.numbers.specs.Digits.{numeral, number}
 use Rattle.numbers.specs.Grammar.{float-text, fixed-text}
 use Rattle.numbers.specs.Whole.{signed}
-use Rattle.numbers.specs.Integer.{integer_read}
 use Rattle.numbers.specs.Decimal.{Scientific, scientific, is_small, decimal, exact}
 use Rattle.numbers.specs.Ratio.{Ratio, scaled, ratio, le_q, SameQ}
-use Rattle.numbers.specs.Billionths.{in_billionths, billionths, billionths_read}
+use Rattle.numbers.specs.Billionths.{in_billionths, billionths}
 use Rattle.numbers.specs.Parts.{all_digits}
 use Rattle.numbers.proofs.Difference.{sub_eq, add-sub, le-sub, neg-pos, pos-sub}
 use Rattle.numbers.proofs.Acceptance.{word_value}
 use Rattle.numbers.proofs.Order.{tens, AsRatio, as-ratio, order, signed_mul}
-use Rattle.numbers.proofs.Signs.{stands-minus, stands-plus}
 use Rattle.numbers.proofs.Texts.{digit_is, cons-digits, uncons-digits}
 use Rattle.numbers.proofs.FloatText.{decimal_is}
 use Rattle.numbers.proofs.FixedText.{Fixed, accepted_fixed, in-billionths_is}
@@ -77,7 +71,7 @@ module _ {s : List ℕ} (f : Fixed s) where
   abbrev F : ℕ
   F = length f.fs
 
-  decimal_fixed : decimal s ≡ some (record { negative = f.neg; mantissa = M; exponent = pos 0 -ℤ pos F })
+  decimal_fixed : decimal s ≡ Some (record { negative = f.neg; mantissa = M; exponent = pos 0 -ℤ pos F })
   decimal_fixed =
       let k = f.few-whole in
       let l = f.few-behind in
@@ -92,8 +86,8 @@ module _ {s : List ℕ} (f : Fixed s) where
   unfolding decimal
   scientific_fixed = ((word_value float-text s (is_small s) (scientific s) (record { negative = f.neg; mantissa = M; exponent = pos 0 -ℤ pos F })).0 decimal_fixed).2
 
-  pub is-decimal : decimal s ≡ some (scientific s)
-  is-decimal = decimal_fixed ∙ ap some (sym scientific_fixed)
+  pub is-decimal : decimal s ≡ Some (scientific s)
+  is-decimal = decimal_fixed ∙ ap Some (sym scientific_fixed)
 
   ratio_fixed : ratio (scientific s) ≡ scaled f.neg M (sub_ℕ (9 - F) 9)
   ratio_fixed = let l = f.few-behind in ap ratio scientific_fixed ∙ ap (scaled f.neg M) (sym (behind 9 F (omega arith)))
@@ -128,11 +122,11 @@ order_fixed f g =
     (order f.neg g.neg (M f) (9 - F f) (M g) (9 - F g) 9)
 
 -- the texts of the shape, and no others, have billionths
-pub billionths-words : (s : List ℕ) (z : ℤ) → (billionths s ≡ some z) ↔ ((s ∈ fixed-text) × (in_billionths s ≡ z))
+pub billionths-words : (s : List ℕ) (z : ℤ) → (billionths s ≡ Some z) ↔ ((s ∈ fixed-text) × (in_billionths s ≡ z))
 unfolding billionths
 billionths-words s z = (
-  λ e. let p = (word_value fixed-text s true (in_billionths s) z).0 (ap (λ (b : Bool). cond b (some (in_billionths s)) none) (and-true (accepts fixed-text s)) ∙ e) in (p.0, p.2),
-  λ h. ap (λ (b : Bool). cond b (some (in_billionths s)) none) (sym (and-true (accepts fixed-text s))) ∙ (word_value fixed-text s true (in_billionths s) z).1 (h.0, refl, h.1),
+  λ e. let p = (word_value fixed-text s true (in_billionths s) z).0 (ap (λ (b : Bool). cond b (Some (in_billionths s)) None) (and-true (accepts fixed-text s)) ∙ e) in (p.0, p.2),
+  λ h. ap (λ (b : Bool). cond b (Some (in_billionths s)) None) (sym (and-true (accepts fixed-text s))) ∙ (word_value fixed-text s true (in_billionths s) z).1 (h.0, refl, h.1),
 )
 
 pub word_fixed : (s : List ℕ) → s ∈ fixed-text → Fixed s
@@ -140,57 +134,24 @@ word_fixed s w = accepted_fixed s (word-accepts fixed-text s w)
 
 -- ---- the code
 
--- p, 10p, 100p, ..
-abbrev tenfold : ℕ → ℕ → List ℕ
-tenfold p zero = []
-tenfold p (suc n) = p ∷ tenfold (p * 10) n
-
-tenfold_at : (p n k : ℕ) → k < n → get_or (tenfold p n) k 0 ≡ p * 10 ^ k
-tenfold_at p zero k h = absurd (omega arith)
-tenfold_at p (suc n) zero h = sym (mul-one p)
-tenfold_at p (suc n) (suc k) h = tenfold_at (p * 10) n k (omega arith) ∙ mul_assoc p 10 (10 ^ k) ∙ ap (λ (x : ℕ). p * x) (sym (pow-succ' 10 k))
-
-pub powers : (k : ℕ) → k ≤ 9 → get_or (tenfold 1 10) k 0 ≡ 10 ^ k
-powers k h = tenfold_at 1 10 k (omega arith) ∙ one-mul (10 ^ k)
-
--- the product that `in_billionths` makes
-module _ (m k p : ℕ) (is : p ≡ 10 ^ k) (small : m * 10 ^ k < 10 ^ 18) where
-  product : m * p ≡ m * 10 ^ k
-  product = ap (λ (x : ℕ). m * x) is
-
-  pub product-fits : Fits w64 (m * p)
-  product-fits = omega (arith, product)
-
-  pub sub-fits : m * p ≤ 9223372036854775808
-  sub-fits = omega (arith, product)
-
-  pub add-fits : Fits w64 (9223372036854775808 + m * p)
-  add-fits = omega (arith, product)
-
-  pub negative : {neg : Bool} → neg ≡ true → integer_read (Value (9223372036854775808 - m * p)) ≡ some (signed neg (m * 10 ^ k))
-  negative t = rw t (ap some (stands-minus (2 ^ 63) (m * p) sub-fits ∙ ap (signed true) product))
-
-  pub positive : {neg : Bool} → neg ≡ false → integer_read (Value (9223372036854775808 + m * p)) ≡ some (signed neg (m * 10 ^ k))
-  positive t = rw t (ap some (stands-plus (2 ^ 63) (m * p) ∙ ap (signed false) product))
-
 -- `read_billionths`: a decimal of the shape has the exponent and the size that `in_billionths` asks for
-module _ (s : List ℕ) (d : Decimal) (b : Bool) (read : some (exact d) ≡ decimal s) (said : billionths_read (Exact d b) ≡ billionths s) where
-  pub not_fixed : b ≡ false → none ≡ billionths s
-  not_fixed t = let e : none ≡ billionths_read (Exact d b) = rw t in e ∙ said
+module _ (s : List ℕ) (d : Decimal) (b : Bool) (read : Some (exact d) ≡ decimal s) (said : cond b (Some (signed d.negative (d.mantissa * 10 ^ (d.exponent - 291)))) None ≡ billionths s) where
+  pub not_fixed : b ≡ false → None ≡ billionths s
+  not_fixed t = let e : None ≡ cond b (Some (signed d.negative (d.mantissa * 10 ^ (d.exponent - 291)))) None = rw t in e ∙ said
 
   is_fixed : b ≡ true → Fixed s
   unfolding billionths
   is_fixed t =
       both (accepts fixed-text s) (accepted_fixed s)
       (λ e.
-      let u : some (signed d.negative (d.mantissa * 10 ^ (d.exponent - 291))) ≡ billionths_read (Exact d b) = rw t in
-      let v : billionths s ≡ none = rw e in
+      let u : Some (signed d.negative (d.mantissa * 10 ^ (d.exponent - 291))) ≡ cond b (Some (signed d.negative (d.mantissa * 10 ^ (d.exponent - 291)))) None = rw t in
+      let v : billionths s ≡ None = rw e in
       let z : ◌≡◌ {A = ℕ} 0 1 = cc in
       absurd (omega arith))
 
   module _ (t : b ≡ true) where
     same : exact d ≡ record { negative = (is_fixed t).neg; mantissa = M (is_fixed t); exponent = pos 0 -ℤ pos (F (is_fixed t)) }
-    same = let e : some (exact d) ≡ some (record { negative = (is_fixed t).neg; mantissa = M (is_fixed t); exponent = pos 0 -ℤ pos (F (is_fixed t)) }) = read ∙ decimal_fixed (is_fixed t) in cc
+    same = let e : Some (exact d) ≡ Some (record { negative = (is_fixed t).neg; mantissa = M (is_fixed t); exponent = pos 0 -ℤ pos (F (is_fixed t)) }) = read ∙ decimal_fixed (is_fixed t) in cc
 
     exponent_is : d.exponent ≡ 300 - F (is_fixed t)
     exponent_is =
@@ -206,5 +167,5 @@ module _ (s : List ℕ) (d : Decimal) (b : Bool) (read : some (exact d) ≡ deci
         let p : d.mantissa * 10 ^ (d.exponent - 291) ≡ M (is_fixed t) * 10 ^ (9 - F (is_fixed t)) = ap (λ (x : ℕ). x * 10 ^ (d.exponent - 291)) m ∙ ap (λ (x : ℕ). M (is_fixed t) * 10 ^ x) e in
         (omega (arith, exponent_is), omega (arith, exponent_is), omega (arith, p, small (is_fixed t)))
 
-    pub fixed : some (signed d.negative (d.mantissa * 10 ^ (d.exponent - 291))) ≡ billionths s
-    fixed = let e : some (signed d.negative (d.mantissa * 10 ^ (d.exponent - 291))) ≡ billionths_read (Exact d b) = rw t in e ∙ said
+    pub fixed : Some (signed d.negative (d.mantissa * 10 ^ (d.exponent - 291))) ≡ billionths s
+    fixed = let e : Some (signed d.negative (d.mantissa * 10 ^ (d.exponent - 291))) ≡ cond b (Some (signed d.negative (d.mantissa * 10 ^ (d.exponent - 291)))) None = rw t in e ∙ said

@@ -1,9 +1,7 @@
 -- The exact decimal that a text writes.
-use Rattle.std.specs.Prelude.{ℕ, List, [], ◌∷◌, Bool, false, cond, ◌&&◌, ◌||◌, leb, eqb, length, ℤ, pos, neg_ℤ, ◌-ℤ◌}
-use Rattle.std.proofs.Math.Option.{Option, none, some}
+use Rattle.std.specs.Prelude.{ℕ, List, [], ◌∷◌, Bool, false, cond, ◌&&◌, ◌||◌, leb, eqb, length, ℤ, pos, neg_ℤ, ◌-ℤ◌, Option, None, Some, option_map}
 use Rattle.numbers.specs.declared.decimals.Decimal.{Decimal}
 use Rattle.numbers.specs.declared.decimals.DecimalRead.{DecimalRead}
-use Rattle.numbers.specs.declared.decimals.DecimalRead.TheVariants.{Exact, Nothing}
 use Rattle.abnf.specs.Accepts.{accepts}
 use Rattle.numbers.specs.Digits.{digits, number}
 use Rattle.numbers.specs.Grammar.{float-text}
@@ -49,7 +47,7 @@ is_small s = leb (length (significant s)) 18 && between (neg_ℤ (pos 280)) (pos
 
 -- "float: optional `-`, digits, optionally `.` and digits, .."
 unfoldable pub decimal : List ℕ → Option Scientific
-decimal s = cond (accepts float-text s && is_small s) (some (scientific s)) none
+decimal s = cond (accepts float-text s && is_small s) (Some (scientific s)) None
 
 -- what a `Decimal` of the code stands for: its exponent n is n - 300
 abbrev pub exact : Decimal → Scientific
@@ -60,6 +58,5 @@ abbrev pub of_whole : ℕ → Scientific
 of_whole n = record { negative = false; mantissa = n; exponent = pos 0 }
 
 -- what the answer of `read_decimal` says
-abbrev pub decimal_read : DecimalRead → Option Scientific
-decimal_read (Exact d fixed) = some (exact d)
-decimal_read Nothing = none
+abbrev pub decimal_read : Option DecimalRead → Option Scientific
+decimal_read r = option_map (λ (d : DecimalRead). exact d.value) r

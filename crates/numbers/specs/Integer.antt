@@ -1,8 +1,5 @@
 -- The integer that a text writes.
-use Rattle.std.specs.Prelude.{ℕ, ◌-◌, ◌^◌, List, Bool, cond, ◌&&◌, ℤ, pos, neg_ℤ}
-use Rattle.std.proofs.Math.Option.{Option, none, some}
-use Rattle.numbers.specs.declared.integers.IntegerRead.{IntegerRead}
-use Rattle.numbers.specs.declared.integers.IntegerRead.TheVariants.{Value, Nothing}
+use Rattle.std.specs.Prelude.{ℕ, ◌-◌, ◌^◌, List, Bool, cond, ◌&&◌, ℤ, pos, neg_ℤ, Option, None, Some, option_map}
 use Rattle.abnf.specs.Accepts.{accepts}
 use Rattle.numbers.specs.Digits.{digits, number}
 use Rattle.numbers.specs.Grammar.{integer-text}
@@ -17,9 +14,8 @@ is_64_bit z = between (neg_ℤ (pos (2 ^ 63))) (pos (2 ^ 63 - 1)) z
 
 -- "integer: optional `-`, then digits, leading zeros allowed; value from -2^63 to 2^63-1"
 unfoldable pub integer : List ℕ → Option ℤ
-integer s = cond (accepts integer-text s && is_64_bit (value s)) (some (value s)) none
+integer s = cond (accepts integer-text s && is_64_bit (value s)) (Some (value s)) None
 
--- what the answer of `read_integer` says: `Value(n)` stands for n - 2^63
-abbrev pub integer_read : IntegerRead → Option ℤ
-integer_read (Value n) = some (stands (2 ^ 63) n)
-integer_read Nothing = none
+-- what the answer of `read_integer` says: n stands for n - 2^63
+abbrev pub integer_read : Option ℕ → Option ℤ
+integer_read r = option_map (stands (2 ^ 63)) r

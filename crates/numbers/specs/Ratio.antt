@@ -1,11 +1,9 @@
 -- Decimals as fractions, and the order of fractions. Paper 01, "Payloads of properties": "Comparisons are of exact decimals."
-use Rattle.std.specs.Prelude.{ℕ, suc, ◌*◌, ◌^◌, ◌≡◌, Bool, true, ◌&&◌, ℤ, pos, negsuc, ◌*ℤ◌}
+use Rattle.std.specs.Prelude.{ℕ, suc, ◌*◌, ◌^◌, ◌≡◌, Bool, true, ◌&&◌, ℤ, pos, negsuc, ◌*ℤ◌, Option, None, Some, option_map}
 use Rattle.std.specs.Int.Signed.{le_z}
-use Rattle.numbers.specs.declared.compare.DecimalBound.{DecimalBound}
-use Rattle.numbers.specs.declared.compare.DecimalBound.TheVariants.{At, Open}
+use Rattle.numbers.specs.declared.decimals.Decimal.{Decimal}
 use Rattle.numbers.specs.Whole.{signed}
 use Rattle.numbers.specs.Decimal.{Scientific, exact}
-use Rattle.std.proofs.Math.Option.{Option, none, some}
 
 -- numerator / denominator; denominators here are powers of ten, so never 0
 pub record Ratio : Type 0 where
@@ -30,17 +28,16 @@ SameQ a b = a.numerator *ℤ pos b.denominator ≡ b.numerator *ℤ pos a.denomi
 
 -- "Floats are held against min and max unrounded."
 abbrev pub not_less : Option Scientific → Scientific → Bool
-not_less none d = true
-not_less (some min) d = le_q (ratio min) (ratio d)
+not_less None d = true
+not_less (Some min) d = le_q (ratio min) (ratio d)
 
 abbrev pub not_more : Option Scientific → Scientific → Bool
-not_more none d = true
-not_more (some max) d = le_q (ratio d) (ratio max)
+not_more None d = true
+not_more (Some max) d = le_q (ratio d) (ratio max)
 
 unfoldable pub decimal_in_bounds : Option Scientific → Option Scientific → Scientific → Bool
 decimal_in_bounds min max d = not_less min d && not_more max d
 
 -- a bound of the code
-abbrev pub decimal_limit : DecimalBound → Option Scientific
-decimal_limit (At d) = some (exact d)
-decimal_limit Open = none
+abbrev pub decimal_limit : Option Decimal → Option Scientific
+decimal_limit b = option_map exact b

@@ -1,29 +1,27 @@
 // Bytes of numbers.
-ghost use Rattle.std.specs.Prelude.{◌≡◌, eqb, get_or, ◌<◌};
+ghost use Rattle.std.specs.Prelude.{◌≡◌, eqb, get_or, ◌^◌, ◌<◌, ◌≤◌};
 ghost use Rattle.numbers.specs.Decimal.{is_e};
 
-pub fn wide(x: u8) -> u64
-    ensures { result ≡ x }
+// The largest power of ten that a u64 holds.
+pub const POWER_MOST: u64 = 19;
+
+pub fn power_of_ten(k: u64) -> u64
+    requires { k ≤ 19 }
+    ensures { result ≡ 10 ^ k }
 {
-    x as u64
+    10u64.pow(k as u32)
 }
 
-// `-` stands at `at`.
-pub fn has_minus(s: &[u8], at: usize) -> bool
-    ensures { result ≡ eqb (get_or s.now at 0) 45 }
+// The byte `b`, which is not 0, stands at `at`.
+pub fn has(s: &[u8], at: usize, b: u8) -> bool
+    requires { 0 < b }
+    ensures { result ≡ eqb (get_or s.now at 0) b }
 {
-    if at < s.len() { s[at] == 45 } else { false }
-}
-
-// `.` stands at `at`.
-pub fn has_dot(s: &[u8], at: usize) -> bool
-    ensures { result ≡ eqb (get_or s.now at 0) 46 }
-{
-    if at < s.len() { s[at] == 46 } else { false }
+    s.get(at) == Some(&b)
 }
 
 pub fn is_e(b: u8) -> bool
     ensures { result ≡ is_e b }
 {
-    b == 101 || b == 69
+    b == b'e' || b == b'E'
 }

@@ -1,85 +1,58 @@
 // Integers from -2^63 to 2^63 - 1. A u64 n stands for n - 2^63, so that their order is `<=`.
-ghost use Rattle.std.specs.Prelude.{◌≡◌, ◌^◌, ◌≤◌, length, drop};
+ghost use Rattle.std.specs.Prelude.{◌≡◌, ◌^◌};
 ghost use Rattle.numbers.specs.Whole.{stands, above_zero};
 ghost use Rattle.numbers.specs.Integer.{integer, integer_read};
 ghost use Rattle.numbers.specs.Parts.{natural};
+ghost use Rattle.numbers.specs.Step.{size};
 
-use crate::digits::{has_minus, wide};
+use crate::digits::has;
+use std::num::NonZeroU64;
 
-// `Value(n)` stands for n - 2^63.
-#[derive(Clone, Copy)]
-pub enum IntegerRead {
-    Value(u64),
-    Nothing,
-}
-
-// A whole number of at most 2^63, or none.
-#[derive(Clone, Copy)]
-enum Natural {
-    Number(u64),
-    NotOne,
-}
-
-// The number that the digits of `s` from `from` write.
-fn read_natural(s: &[u8], from: usize) -> Natural
-    requires { from ≤ length s.now }
-    ensures { result ≡ natural (drop from s.now) }
+// The number that digits write.
+fn read_natural(s: &[u8]) -> Option<u64>
+    ensures { result ≡ natural s.now }
 {
-    if s.len() <= from {
-        return Natural::NotOne;
+    if s.is_empty() {
+        return None;
     }
     let mut a: u64 = 0;
-    let mut i = from;
-    while i < s.len() {
-        let d = s[i];
-        if d < 48 {
-            return Natural::NotOne;
-        }
-        if 57 < d {
-            return Natural::NotOne;
+    for &d in s {
+        if !d.is_ascii_digit() {
+            return None;
         }
         if 922337203685477580 < a {
-            return Natural::NotOne;
+            return None;
         }
-        a = a * 10 + wide(d - 48);
-        i += 1;
+        a = a * 10 + u64::from(d - b'0');
     }
-    if 9223372036854775808 < a {
-        return Natural::NotOne;
+    if a <= 9223372036854775808 {
+        Some(a)
+    } else {
+        None
     }
-    Natural::Number(a)
 }
 
 // The integer that `s` writes. JSON numbers with neither fraction nor exponent are such texts.
-pub fn read_integer(s: &[u8]) -> IntegerRead
+pub fn read_integer(s: &[u8]) -> Option<u64>
     ensures { integer_read result ≡ integer s.now }
 {
-    if has_minus(s, 0) {
-        match read_natural(s, 1) {
-            Natural::Number(m) => IntegerRead::Value(9223372036854775808 - m),
-            Natural::NotOne => IntegerRead::Nothing,
-        }
+    if has(s, 0, b'-') {
+        let m = read_natural(&s[1..])?;
+        return Some(9223372036854775808 - m);
+    }
+    let m = read_natural(s)?;
+    if m < 9223372036854775808 {
+        Some(9223372036854775808 + m)
     } else {
-        match read_natural(s, 0) {
-            Natural::Number(m) => if m < 9223372036854775808 {
-                IntegerRead::Value(9223372036854775808 + m)
-            } else {
-                IntegerRead::Nothing
-            },
-            Natural::NotOne => IntegerRead::Nothing,
-        }
+        None
     }
 }
 
-// The integer itself where it is above 0, else 0.
-pub fn above_zero(n: u64) -> u64
-    ensures { result ≡ above_zero (stands (2 ^ 63) n) }
+// The integer itself where it is above 0.
+pub fn above_zero(n: u64) -> Option<NonZeroU64>
+    ensures { size result ≡ above_zero (stands (2 ^ 63) n) }
 {
-    if 9223372036854775808 <= n {
-        n - 9223372036854775808
-    } else {
-        0
-    }
+    n.checked_sub(9223372036854775808).and_then(NonZeroU64::new)
 }
 
 // The integer itself.

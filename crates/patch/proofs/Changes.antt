@@ -1,13 +1,12 @@
 -- What the bytes of a patch make of a device, by what is read in them.
+use Rattle.std.specs.Prelude.{Option, None}
 use Prim.Native.Nat.{ℕ, zero, suc, ◌+◌, ◌-◌, ◌*◌, ◌≤◌, ◌<◌, zero-le, suc-le-suc, min}
 use native.Mathlib.Omega.{arith}
 use native.Mathlib.Decide.{dec_lt}
 use mathlib.Core.Path.{◌≡◌, refl, ap, ap₂, ◌∙◌, subst}
 use mathlib.Core.List.{List, ◌∷◌}
 use mathlib.Core.Bool.{false}
-use mathlib.Core.Option.{Option, none}
-use lib.ListN.{length, get_or, take}
-use lib.Seq.{take_all}
+use lib.ListN.{length, get_or}
 use Rattle.little_endian.specs.Bytes.{u64, put}
 use Rattle.memory.specs.Bytes.{tab}
 use Rattle.memory.specs.Layout.{room_size}
@@ -43,16 +42,16 @@ state-makes bs s t l es et = record {
 
 -- ---- no description, and a new device, which has none
 
-no-description : (r : List ℕ) → is_set r described_at ≡ false → description_in r ≡ none
+no-description : (r : List ℕ) → is_set r described_at ≡ false → description_in r ≡ None
 unfolding description_in
 no-description r h = rw (h, description_in)
 
-pub none-makes : (bs : List ℕ) → length bs ≡ 1 → is_set bs 0 ≡ false → Makes described_at bs (with_description none)
+pub none-makes : (bs : List ℕ) → length bs ≡ 1 → is_set bs 0 ≡ false → Makes described_at bs (with_description None)
 none-makes bs l h = record {
   makes = λ r q.
       let fits : described_at + length bs ≤ length r = omega arith in
       let flag = set-alike (put-new r bs described_at fits) 0 {a' = described_at} {b' = 0} refl refl (omega arith) ∙ h in
-      device_is (put-before r bs described_at fits id_at described_at (omega arith)) none (no-description (put r described_at bs) flag);
+      device_is (put-before r bs described_at fits id_at described_at (omega arith)) None (no-description (put r described_at bs) flag);
 }
 
 pub new-makes : (bs id : List ℕ) (s : DeviceState) (time : ℕ) → length bs ≡ root_at → text_at bs id_at id_most ≡ id → state_at (get_or bs state_code_at 0) ≡ s → u64 bs time_at ≡ time
@@ -161,11 +160,11 @@ module _ (m : List ℕ) (i at : ℕ) (kind : LaneKind) (h : Option Held) (bytes 
   pub lane_outside : length m < at + lane_size → LaneSet m i kind h m
   lane_outside k = record { bytes = bytes; size = size; makes = made; written = λ l. absurd (omega arith); kept = λ l. refl }
 
-  pub lane-inside-set : (m' : List ℕ) → at + lane_size ≤ length m → m' ≡ put m at (take lane_size bytes) → LaneSet m i kind h m'
+  pub lane-inside-set : (m' : List ℕ) → at + lane_size ≤ length m → m' ≡ put m at bytes → LaneSet m i kind h m'
   lane-inside-set m' k e = record {
     bytes = bytes;
     size = size;
     makes = made;
-    written = λ l. e ∙ ap₂ (put m) place (take_all lane_size bytes (omega arith));
+    written = λ l. e ∙ ap (λ (a : ℕ). put m a bytes) place;
     kept = λ l. absurd (omega arith);
   }

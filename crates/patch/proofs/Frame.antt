@@ -1,10 +1,10 @@
 -- Rooms that hold the same bytes are read alike; and the bytes of a room that others were put over.
+use Rattle.std.specs.Prelude.{Option, None, Some}
 use Prim.Native.Nat.{ℕ, ◌+◌, ◌-◌, ◌^◌, ◌≤◌, ◌<◌, min}
 use native.Mathlib.Omega.{arith}
 use mathlib.Core.Path.{◌≡◌, refl, sym, ap, ◌∙◌}
 use mathlib.Core.List.{List}
 use mathlib.Core.Bool.{Bool, true, false, not}
-use mathlib.Core.Option.{Option, none, some}
 use lib.ListN.{length, get_or}
 use lib.Dec.{eqb}
 use Rattle.little_endian.specs.Bytes.{num, u64, put}
@@ -87,7 +87,7 @@ text-alike {r} {a} {s} {b} most e =
     ∙ span-alike (within e 1 refl refl (omega arith))
 
 optional : Bool → List ℕ → Option (List ℕ)
-optional b t = elim b [ true ↦ some t | false ↦ none ]
+optional b t = elim b [ true ↦ Some t | false ↦ None ]
 
 pub optional-alike : {r : List ℕ} {a : ℕ} {s : List ℕ} {b : ℕ} (most : ℕ) → Alike r a s b (1 + most) → optional_at r a most ≡ optional_at s b most
 unfolding optional_at optional
@@ -97,7 +97,7 @@ optional-alike {r} {a} {s} {b} most e =
     λ i. optional (p i) (q i)
 
 held_of : Bool → ℕ → List ℕ → Option Held
-held_of b t p = elim b [ true ↦ some (record { time = t; payload = p }) | false ↦ none ]
+held_of b t p = elim b [ true ↦ Some (record { time = t; payload = p }) | false ↦ None ]
 
 pub held-alike : {r : List ℕ} {a : ℕ} {s : List ℕ} {b : ℕ} → Alike r a s b lane_size → held_at r a ≡ held_at s b
 unfolding held_at held_of
@@ -137,8 +137,8 @@ properties-alike {r} {s} e =
 
 described_of : Bool → Option (List ℕ) → Option (List ℕ) → ℕ → List Property → Option Description
 described_of b root parent version ps = elim b [
-  | true ↦ some (record { root = root; parent = parent; version = stands (2 ^ 63) version; properties = ps })
-  | false ↦ none
+  | true ↦ Some (record { root = root; parent = parent; version = stands (2 ^ 63) version; properties = ps })
+  | false ↦ None
 ]
 
 -- a description by its parts: the flag, root, parent, version and properties
@@ -165,8 +165,8 @@ description-alike {r} {s} e =
     ∙ same (description_in s)
   where
     same : (x : Option Description) → in_description (λ ps. ps) x ≡ x
-    same none = refl
-    same (some x) = refl
+    same None = refl
+    same (Some x) = refl
 
 -- a device whose head is kept, with another description
 pub device_is : {r s : List ℕ} → Alike r id_at s id_at described_at → (y : Option Description) → description_in r ≡ y → device_of r ≡ with_description y (device_of s)

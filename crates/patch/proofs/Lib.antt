@@ -2,3 +2,4 @@ pub mod Frame
 pub mod Changes
 pub mod Written
 pub mod Theorems
+pub mod Halves

@@ -1,14 +1,14 @@
 -- The bytes that are written, and what is read in them.
+use Rattle.std.specs.Prelude.{Some}
 use Prim.Native.Nat.{ℕ, suc, ◌+◌, ◌^◌, ◌≤◌, ◌<◌, min}
 use native.Mathlib.Omega.{arith}
 use native.Mathlib.Decide.{dec_lt}
 use mathlib.Core.Path.{◌≡◌, refl, sym, ap, ◌∙◌, subst}
-use mathlib.Core.List.{List, [], ◌∷◌, append-nil}
+use mathlib.Core.List.{List, [], ◌∷◌, ◌++◌, append-nil}
 use mathlib.Core.Bool.{true, false, not}
-use mathlib.Core.Option.{none, some}
-use lib.ListN.{length, get_or, set, take, length-take, replicate}
+use lib.ListN.{length, get_or, set, take, drop, length-take, replicate}
 use lib.Dec.{eqb, eqb-suc-zero}
-use lib.Seq.{take_all}
+use lib.Seq.{take_all, drop-drop}
 use Rattle.little_endian.specs.Bytes.{le_bytes, u64, put}
 use Rattle.little_endian.proofs.Numbers.{length-le_bytes, num-back}
 use Rattle.little_endian.proofs.Put.{length-put, put_one, put_then}
@@ -39,6 +39,11 @@ text-written d e s at n most q h w =
     let k : n ≡ length (take most s) = omega (arith, length-take most s) in
     w ∙ put_then d (set d at n) at (at + 1) (n ∷ []) (take n s) (put_one d at n h) (omega arith) refl
     ∙ (λ i. put d at (k i ∷ take-least n most s q i))
+
+-- a part of a list, replaced
+pub part-put : (d b s : List ℕ) (at n : ℕ) → b ≡ s → length s ≡ n → take at d ++ (b ++ drop n (drop at d)) ≡ put d at s
+unfolding put
+part-put d b s at n e l = rw (e, l, drop-drop)
 
 pub length-bytes : (t : List ℕ) → length (text_bytes t) ≡ suc (length t)
 unfolding text_bytes
@@ -113,12 +118,12 @@ new-written z d bs t s code time ez small e h ed w =
     let q : bs ≡ x = w ∙ ap (λ (y : List ℕ). put (set y state_code_at code) time_at (le_bytes 8 time)) ed ∙ ap (λ (y : List ℕ). put y time_at (le_bytes 8 time)) (put_one a state_code_at code (omega arith)) in
     let name = text-alike id_most (put-before b (le_bytes 8 time) time_at fx 0 33 (omega arith)) ∙ text-alike id_most (put-before a (code ∷ []) state_code_at fb 0 33 (omega arith)) ∙ text-back z t 0 32 (omega arith) small in
     let own = byte-alike (put-before b (le_bytes 8 time) time_at fx state_code_at 1 (omega arith)) 0 {a' = state_code_at} {b' = state_code_at} refl refl (omega arith) ∙ byte-back a state_code_at code (omega arith) ∙ e in
-    let none = set-alike (put-after b (le_bytes 8 time) time_at fx described_at 1 (omega (arith, length-le_bytes 8 time)) (omega arith)) 0 {a' = described_at} {b' = described_at} refl refl (omega arith)
+    let None = set-alike (put-after b (le_bytes 8 time) time_at fx described_at 1 (omega (arith, length-le_bytes 8 time)) (omega arith)) 0 {a' = described_at} {b' = described_at} refl refl (omega arith)
     ∙ set-alike (put-after a (code ∷ []) state_code_at fb described_at 1 (omega arith) (omega arith)) 0 {a' = described_at} {b' = described_at} refl refl (omega arith)
     ∙ set-alike (put-after z (length t ∷ t) 0 fa described_at 1 (omega arith) (omega arith)) 0 {a' = described_at} {b' = described_at} refl refl (omega arith)
     ∙ ap (λ (y : List ℕ). is_set y described_at) ez in
     subst (λ (y : List ℕ). Makes id_at y (λ _. new_device t s time)) (sym q)
-    (new-makes x t s time lx name (ap state_at own ∙ state-back s) (number-back b time_at time (omega arith) h) none)
+    (new-makes x t s time lx name (ap state_at own ∙ state-back s) (number-back b time_at time (omega arith) h) None)
 
 -- what a lane holds, by its time and its payload
 is-set : (r : List ℕ) (at n : ℕ) → get_or r at 0 ≡ suc n → is_set r at ≡ true
@@ -132,7 +137,7 @@ is-not-set r at e = ap (λ (x : ℕ). not (eqb x 0)) e
 held_is : (r t : List ℕ) (time : ℕ) → get_or r payload_at 0 ≡ length t → u64 r 0 ≡ time → text_at r payload_at payload_most ≡ t → held_at r 0 ≡ held_since time t
 unfolding held_at held_since is_empty
 held_is r [] time en et ep = rw (is-not-set r payload_at en, held_at)
-held_is r (b ∷ t) time en et ep = rw (is-set r payload_at (length t) en, held_at) (λ i. some (record { time = et i; payload = ep i }))
+held_is r (b ∷ t) time en et ep = rw (is-set r payload_at (length t) en, held_at) (λ i. Some (record { time = et i; payload = ep i }))
 
 pub lane-written : (z d bs t : List ℕ) (time : ℕ) → length z ≡ 57 → length t ≤ 48 → time < 2 ^ 64 → d ≡ put z 0 (le_bytes 8 time) → bs ≡ put d payload_at (text_bytes t) → LaneMakes bs (held_since time t)
 lane-written z d bs t time l small h ed w =

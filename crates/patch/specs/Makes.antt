@@ -1,6 +1,5 @@
 -- What bytes, put over those of a room, make of the device that the room means.
-use Rattle.std.specs.Prelude.{ℕ, ◌+◌, ◌≤◌, ◌<◌, ◌≡◌, List, true, false, length}
-use Rattle.std.proofs.Math.Option.{Option, none, some}
+use Rattle.std.specs.Prelude.{ℕ, ◌+◌, ◌≤◌, ◌<◌, ◌≡◌, List, true, false, length, Option, None, Some}
 use Rattle.little_endian.specs.Bytes.{put}
 use Rattle.memory.specs.Layout.{room_size}
 use Rattle.rules.specs.declared.LaneKind.{LaneKind}
@@ -17,7 +16,7 @@ pub record Makes (offset : ℕ) (bytes : List ℕ) (f : Device → Device) : Typ
 
 -- paper 01, "The table": "each is empty or holds a payload with its time"
 unfoldable pub held_since : (time : ℕ) → (payload : List ℕ) → Option Held
-held_since time payload = elim (is_empty payload) [ true ↦ none | false ↦ some (record { time = time; payload = payload }) ]
+held_since time payload = elim (is_empty payload) [ true ↦ None | false ↦ Some (record { time = time; payload = payload }) ]
 
 -- these bytes, put over a lane of any kind of any property, make it hold this
 pub record LaneMakes (bytes : List ℕ) (h : Option Held) : Type 0 where

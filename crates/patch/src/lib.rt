@@ -2,8 +2,9 @@
 // for every room that they are put in.
 #![tactic(auto)]
 
-ghost use Rattle.std.specs.Prelude.{◌+◌, ◌<◌, ◌≤◌, min, ◌≡◌, length, take};
-ghost use Rattle.std.proofs.Math.Option.{none};
+// Kept by hand: `state`, `new_device`, `no_description` and `lane` give arrays of a fixed size, since there is no heap; each is written whole, so that no length stands beside it.
+
+ghost use Rattle.std.specs.Prelude.{◌+◌, ◌<◌, ◌≤◌, ◌≡◌, length, take};
 ghost use Rattle.little_endian.specs.Bytes.{put};
 ghost use Rattle.rules.specs.Messages.{with_state, new_device, with_description};
 ghost use Rattle.text.specs.Ids.{id_most};
@@ -22,32 +23,14 @@ const STATE_TIME: usize = TIME - STATE;
 
 pub const STATE_SIZE: usize = STATE_TIME + 8;
 
-fn least(a: usize, b: usize) -> usize
-    ensures { result ≡ min a b }
-{
-    if a < b { a } else { b }
-}
-
-// Writes the first n bytes of s from `at` on.
-fn write(d: &mut [u8], at: usize, s: &[u8], n: usize)
-    requires { (at + n ≤ length d.old) × (n ≤ length s.now) }
-    ensures { d.new ≡ put d.old at (take n s.now) }
-{
-    let mut j: usize = 0;
-    while j < n {
-        d[at + j] = s[j];
-        j += 1;
-    }
-}
-
 // Writes a byte string, cut to `most` bytes: a length byte, then the bytes.
 fn write_text(d: &mut [u8], at: usize, s: &[u8], most: usize)
     requires { (at + 1 + most ≤ length d.old) × (most < 256) }
     ensures { d.new ≡ put d.old at (text_bytes (take most s.now)) }
 {
-    let n = least(s.len(), most);
+    let n = s.len().min(most);
     d[at] = n as u8;
-    write(d, at + 1, s, n);
+    d[at + 1..at + 1 + n].copy_from_slice(&s[..n]);
 }
 
 // The device has this state since this time.
@@ -74,7 +57,7 @@ pub fn new_device(id: &[u8], s: DeviceState, time: u64) -> [u8; ROOT]
 
 // The device has no description.
 pub fn no_description() -> [u8; 1]
-    ensures { Makes described_at result (with_description none) }
+    ensures { Makes described_at result (with_description None) }
 {
     [0]
 }
@@ -93,7 +76,7 @@ pub fn lane(time: u64, payload: &[u8]) -> [u8; LANE]
 pub fn lane_offset(i: u8, kind: LaneKind) -> usize
     ensures { result ≡ lane_at i (lane_number kind) }
 {
-    RECORDS + RECORD * (i as usize) + LANES + LANE * lane_number(kind)
+    RECORDS + RECORD * usize::from(i) + LANES + LANE * lane_number(kind)
 }
 
 // A lane of the i-th property written into the room itself; where it does not lie inside, nothing is.
@@ -102,8 +85,7 @@ pub fn set_lane(room: &mut [u8], i: u8, kind: LaneKind, time: u64, payload: &[u8
 {
     let bytes = lane(time, payload);
     let at = lane_offset(i, kind);
-    if room.len() < at + LANE {
-        return;
+    if at + LANE <= room.len() {
+        room[at..at + LANE].copy_from_slice(&bytes);
     }
-    write(room, at, &bytes, LANE);
 }

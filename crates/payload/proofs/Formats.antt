@@ -1,10 +1,10 @@
 -- What is kept of a format is a valid format of at most 64 bytes.
+use Rattle.std.specs.Prelude.{Option, None, Some}
 use Prim.Native.Nat.{ℕ, ◌≤◌}
 use native.Mathlib.Omega.{arith}
 use mathlib.Core.Path.{◌≡◌, refl, sym, ap, ◌∙◌}
 use mathlib.Core.List.{List}
 use mathlib.Core.Bool.{Bool, true, ◌&&◌, cond}
-use mathlib.Core.Option.{Option, none, some}
 use lib.ListN.{length}
 use lib.Dec.{leb}
 use borrow.Author.Tests.{leb-true}
@@ -23,10 +23,10 @@ record Good (d : Datatype) (f : List ℕ) : Type 0 where
   valid : is_format d f ≡ true
   short : length f ≤ 64
 
-given : {a b : List ℕ} → some a ≡ some b → a ≡ b
+given : {a b : List ℕ} → Some a ≡ Some b → a ≡ b
 given e = cc
 
-missing-good : (d : Datatype) {f : List ℕ} → when_missing d ≡ some f → Good d f
+missing-good : (d : Datatype) {f : List ℕ} → when_missing d ≡ Some f → Good d f
 unfolding when_missing is_format integer_range float_range range_of each_read is_list is_in none_empty no_repeats split onto eq_bytes accepts starts again is_empty
 missing-good Integer e = rw (sym (given e)) (record { valid = refl; short = omega arith })
 missing-good Float e = rw (sym (given e)) (record { valid = refl; short = omega arith })
@@ -53,15 +53,15 @@ given-good Datetime g h = record { valid = refl; short = omega arith }
 given-good Duration g h = record { valid = refl; short = omega arith }
 given-good Json g h = record { valid = refl; short = omega arith }
 
-kept-good : (d : Datatype) (g : Option (List ℕ)) {f : List ℕ} → kept_format d g ≡ some f → Good d f
+kept-good : (d : Datatype) (g : Option (List ℕ)) {f : List ℕ} → kept_format d g ≡ Some f → Good d f
 unfolding kept_format
-kept-good d none e = missing-good d e
-kept-good d (some g) e = both (is_format d g)
-    (λ h. rw (sym (given (sym (ap (λ (b : Bool). cond b (some (kept_of d g)) none) h) ∙ e))) (given-good d g h))
-    (λ h. let x = sym (ap (λ (b : Bool). cond b (some (kept_of d g)) none) h) ∙ e in let z : ◌≡◌ {A = ℕ} 0 1 = cc in absurd (omega arith))
+kept-good d None e = missing-good d e
+kept-good d (Some g) e = both (is_format d g)
+    (λ h. rw (sym (given (sym (ap (λ (b : Bool). cond b (Some (kept_of d g)) None) h) ∙ e))) (given-good d g h))
+    (λ h. let x = sym (ap (λ (b : Bool). cond b (Some (kept_of d g)) None) h) ∙ e in let z : ◌≡◌ {A = ℕ} 0 1 = cc in absurd (omega arith))
 
-pub kept-valid : (d : Datatype) (g : Option (List ℕ)) (f : List ℕ) → kept_format d g ≡ some f → is_format d f ≡ true
+pub kept-valid : (d : Datatype) (g : Option (List ℕ)) (f : List ℕ) → kept_format d g ≡ Some f → is_format d f ≡ true
 kept-valid d g f e = (kept-good d g e).valid
 
-pub kept-short : (d : Datatype) (g : Option (List ℕ)) (f : List ℕ) → kept_format d g ≡ some f → length f ≤ 64
+pub kept-short : (d : Datatype) (g : Option (List ℕ)) (f : List ℕ) → kept_format d g ≡ Some f → length f ≤ 64
 kept-short d g f e = (kept-good d g e).short

@@ -1,11 +1,8 @@
 -- Paper 01, "The description": "`datatype` (required, one of the nine above)".
-use Rattle.std.specs.Prelude.{ℕ, List, [], ◌∷◌, cond, get_or}
-use Rattle.std.proofs.Math.Option.{Option, none, some}
+use Rattle.std.specs.Prelude.{ℕ, List, [], ◌∷◌, cond, get_or, Option, None, Some}
 use Rattle.text.specs.Bytes.{eq_bytes}
 use Rattle.payload.specs.declared.Datatype.{Datatype}
 use Rattle.payload.specs.declared.Datatype.TheVariants.{String, Integer, Float, Boolean, Enum, Color, Datetime, Duration, Json}
-use Rattle.payload.specs.declared.Named.{Named}
-use Rattle.payload.specs.declared.Named.TheVariants.{Known, Unknown}
 use Rattle.text.specs.Ascii.{ascii}
 
 abbrev pub datatypes : List Datatype
@@ -24,16 +21,11 @@ name_of Json = ascii "json"
 
 -- the datatype of a name
 abbrev pub named_in : List Datatype → List ℕ → Option Datatype
-named_in [] s = none
-named_in (d ∷ ds) s = cond (eq_bytes s (name_of d)) (some d) (named_in ds s)
+named_in [] s = None
+named_in (d ∷ ds) s = cond (eq_bytes s (name_of d)) (Some d) (named_in ds s)
 
 unfoldable pub datatype_named : List ℕ → Option Datatype
 datatype_named s = named_in datatypes s
-
--- what the answer of `read_datatype` says
-abbrev pub named : Named → Option Datatype
-named (Known d) = some d
-named Unknown = none
 
 -- its place among the nine, for memory; a number past the last is the last
 unfoldable pub code_of : Datatype → ℕ

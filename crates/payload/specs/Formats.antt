@@ -1,12 +1,11 @@
 -- Paper 01, "Payloads of properties": formats.
-use Rattle.std.specs.Prelude.{ℕ, List, [], Bool, true, ◌&&◌, cond, leb, eqb, length}
-use Rattle.std.proofs.Math.Option.{Option, none, some}
+use Rattle.std.specs.Prelude.{ℕ, List, [], Bool, true, ◌&&◌, cond, leb, eqb, length, Option, None, Some, option_map}
 use Rattle.entries.specs.Entries.{entries_of, is_list, all_in}
 use Rattle.ranges.specs.Ranges.{integer_range, float_range, is_some}
 use Rattle.payload.specs.declared.Datatype.{Datatype}
 use Rattle.payload.specs.declared.Datatype.TheVariants.{String, Integer, Float, Boolean, Enum, Color, Datetime, Duration, Json}
 use Rattle.payload.specs.declared.Format.{Format}
-use Rattle.payload.specs.declared.Format.TheVariants as answers
+use Rattle.payload.specs.declared.Format.TheVariants.{AsGiven, Colon, FalseTrue, NotKept}
 use Rattle.text.specs.Ascii.{ascii}
 
 -- "Formats, at most 64 bytes where kept"
@@ -48,30 +47,33 @@ kept_of Json f = []
 
 -- what is kept where there is none: "kept as `:` when missing"; "(required)"; "`false,true` when missing"
 unfoldable pub when_missing : Datatype → Option (List ℕ)
-when_missing Integer = some (ascii ":")
-when_missing Float = some (ascii ":")
-when_missing Enum = none
-when_missing Color = none
-when_missing Boolean = some (ascii "false,true")
-when_missing String = some []
-when_missing Datetime = some []
-when_missing Duration = some []
-when_missing Json = some []
+when_missing Integer = Some (ascii ":")
+when_missing Float = Some (ascii ":")
+when_missing Enum = None
+when_missing Color = None
+when_missing Boolean = Some (ascii "false,true")
+when_missing String = Some []
+when_missing Datetime = Some []
+when_missing Duration = Some []
+when_missing Json = Some []
 
 -- the kept format of a property that has one or none; none where it is not valid
 unfoldable pub kept_format : Datatype → Option (List ℕ) → Option (List ℕ)
 unfolding is_format kept_of when_missing
-kept_format d none = when_missing d
-kept_format d (some f) = cond (is_format d f) (some (kept_of d f)) none
+kept_format d None = when_missing d
+kept_format d (Some f) = cond (is_format d f) (Some (kept_of d f)) None
 
 -- the format that was asked about, if any was given
 abbrev pub given_format : Bool → List ℕ → Option (List ℕ)
-given_format given f = cond given (some f) none
+given_format given f = cond given (Some f) None
 
--- what the answer of `judge_format` says
-abbrev pub kept_bytes : List ℕ → Format → Option (List ℕ)
-kept_bytes f answers.Bad = none
-kept_bytes f answers.AsGiven = some f
-kept_bytes f answers.Colon = some (ascii ":")
-kept_bytes f answers.FalseTrue = some (ascii "false,true")
-kept_bytes f answers.NotKept = some []
+-- the bytes that are kept of the format f
+abbrev pub kept_as : List ℕ → Format → List ℕ
+kept_as f AsGiven = f
+kept_as f Colon = ascii ":"
+kept_as f FalseTrue = ascii "false,true"
+kept_as f NotKept = []
+
+-- what the answer of `judge_format` says: the bytes that the format f is kept as, where it is valid
+abbrev pub kept_bytes : List ℕ → Option Format → Option (List ℕ)
+kept_bytes f k = option_map (kept_as f) k

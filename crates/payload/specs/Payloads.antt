@@ -1,6 +1,5 @@
 -- Paper 01, "Payloads of properties": which payloads are valid.
-use Rattle.std.specs.Prelude.{ℕ, List, [], ◌∷◌, Bool, true, false, ◌&&◌, ◌||◌, cond, leb, length}
-use Rattle.std.proofs.Math.Option.{Option, none, some}
+use Rattle.std.specs.Prelude.{ℕ, List, [], ◌∷◌, Bool, true, false, ◌&&◌, ◌||◌, cond, leb, length, Option, None, Some}
 use Rattle.text.specs.Bytes.{eq_bytes}
 use Rattle.text.specs.Utf8.{is_utf8}
 use Rattle.json_text.specs.Value.{is_container}
@@ -55,8 +54,8 @@ unfolding is_format is_of may_be
 is_payload d f s = leb 1 (length s) && (leb (length s) payload_most && (may_be d s && (is_format d f && is_of d f s)))
 
 unfoldable pub is_payload_under : Datatype → Option (List ℕ) → List ℕ → Bool
-is_payload_under d none s = false
-is_payload_under d (some kept) s = is_payload d kept s
+is_payload_under d None s = false
+is_payload_under d (Some kept) s = is_payload d kept s
 
 -- A payload of a property with this format, or with none: judged by the kept format. There is none where the given one is not valid, or where one is
 -- required and missing; then no payload is valid (ours: no such property can be declared).

@@ -1,10 +1,10 @@
 -- A datatype's name has no backslash, and at most eight bytes.
+use Rattle.std.specs.Prelude.{None, Some}
 use Prim.Native.Nat.{ℕ, ◌≤◌, ◌<◌}
 use native.Mathlib.Omega.{arith}
 use mathlib.Core.Path.{◌≡◌, refl, sym, ap, ◌∙◌}
 use mathlib.Core.List.{List, [], ◌∷◌}
 use mathlib.Core.Bool.{Bool, true, cond}
-use mathlib.Core.Option.{none, some}
 use lib.ListN.{length}
 use Rattle.text.specs.Bytes.{eq_bytes}
 use Rattle.text.proofs.Bytes.{both, eq-long, eq_bytes-true}
@@ -25,13 +25,13 @@ name-plain Datetime = refl
 name-plain Duration = refl
 name-plain Json = refl
 
-named-plain : (ds : List Datatype) (t : List ℕ) {d : Datatype} → named_in ds t ≡ some d → is_plain t ≡ true
+named-plain : (ds : List Datatype) (t : List ℕ) {d : Datatype} → named_in ds t ≡ Some d → is_plain t ≡ true
 named-plain [] t {d} e = let z : ◌≡◌ {A = ℕ} 0 1 = cc in absurd (omega arith)
 named-plain (c ∷ ds) t {d} e = both (eq_bytes t (name_of c))
     (λ h. ap is_plain (eq_bytes-true t (name_of c) h) ∙ name-plain c)
-    (λ h. named-plain ds t (sym (ap (λ (b : Bool). cond b (some c) (named_in ds t)) h) ∙ e))
+    (λ h. named-plain ds t (sym (ap (λ (b : Bool). cond b (Some c) (named_in ds t)) h) ∙ e))
 
-pub datatype-plain : (t : List ℕ) (d : Datatype) → datatype_named t ≡ some d → is_plain t ≡ true
+pub datatype-plain : (t : List ℕ) (d : Datatype) → datatype_named t ≡ Some d → is_plain t ≡ true
 unfolding datatype_named
 datatype-plain t d e = named-plain datatypes t e
 
@@ -46,12 +46,12 @@ name-short Datetime = omega arith
 name-short Duration = omega arith
 name-short Json = omega arith
 
-none_named : (ds : List Datatype) (t : List ℕ) → 8 < length t → named_in ds t ≡ none
+none_named : (ds : List Datatype) (t : List ℕ) → 8 < length t → named_in ds t ≡ None
 none_named [] t h = refl
 none_named (c ∷ ds) t h =
     let l = name-short c in
-    ap (λ (b : Bool). cond b (some c) (named_in ds t)) (eq-long t (name_of c) (λ e. omega arith)) ∙ none_named ds t h
+    ap (λ (b : Bool). cond b (Some c) (named_in ds t)) (eq-long t (name_of c) (λ e. omega arith)) ∙ none_named ds t h
 
-pub datatype-short : (t : List ℕ) → 8 < length t → datatype_named t ≡ none
+pub datatype-short : (t : List ℕ) → 8 < length t → datatype_named t ≡ None
 unfolding datatype_named
 datatype-short t h = none_named datatypes t h

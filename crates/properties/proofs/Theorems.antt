@@ -1,13 +1,12 @@
 -- What this crate promises beyond its contracts.
+use Rattle.std.specs.Prelude.{Some}
 use Prim.Native.Nat.{ℕ}
 use mathlib.Core.Path.{◌≡◌}
 use mathlib.Core.List.{List, []}
 use mathlib.Core.Bool.{true, false}
-use mathlib.Core.Option.{some}
 use Rattle.text.specs.Ids.{is_id}
 use Rattle.fields.specs.Values.{string_bytes, is_string_at}
 use Rattle.fields.specs.Fields.{of_kind}
-use Rattle.fields.specs.declared.Field.TheVariants.{First}
 use Rattle.payload.specs.declared.Datatype.{Datatype}
 use Rattle.properties.specs.Property.{Property, is_kept, given_faults, format_faults, property_faults, property_at, insert_all}
 use Rattle.properties.specs.Valid.{Valid, Apart, Arranged}
@@ -15,7 +14,7 @@ use Rattle.properties.proofs.Valid.{valid_at}
 use Rattle.properties.proofs.Order.{arranged}
 
 -- "Formats of other types are not kept and may be any string.": with half a surrogate pair, too
-pub any-string : (s : List ℕ) (at k : ℕ) (d : Datatype) → is_kept d ≡ false → is_string_at s k ≡ true → format_faults s at (some d) (First k) ≡ []
+pub any-string : (s : List ℕ) (at k : ℕ) (d : Datatype) → is_kept d ≡ false → is_string_at s k ≡ true → format_faults s at (Some d) (Some k) ≡ []
 unfolding format_faults given_faults of_kind
 any-string s at k d e h = rw (h, e)
 

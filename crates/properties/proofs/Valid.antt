@@ -1,16 +1,14 @@
 -- A property without a fault is valid.
+use Rattle.std.specs.Prelude.{Option, None, Some}
 use Prim.Native.Nat.{ℕ, ◌≤◌}
 use mathlib.Core.Path.{◌≡◌, refl, sym, ap, ◌∙◌}
 use mathlib.Core.List.{List, []}
 use mathlib.Core.Bool.{Bool, true, false≢true}
-use mathlib.Core.Option.{Option, none, some}
 use lib.ListN.{length}
 use Rattle.text.specs.Ids.{is_id}
 use Rattle.text.proofs.Bytes.{both}
 use Rattle.fields.specs.Values.{string_bytes, is_string_at, is_object}
 use Rattle.fields.specs.Fields.{field, text_in, field_faults, name_faults}
-use Rattle.fields.specs.declared.Field.{Field}
-use Rattle.fields.specs.declared.Field.TheVariants.{Absent, First}
 use Rattle.fields.specs.declared.Kind.TheVariants.{Text}
 use Rattle.fields.specs.declared.Owner.TheVariants as owner
 use Rattle.ranges.specs.Ranges.{is_some}
@@ -24,10 +22,10 @@ use Rattle.faults.proofs.Laws.{both-none, rule-kept}
 use Rattle.fields.proofs.Decoded.{no-faults}
 use Rattle.properties.proofs.Rules.{kind-none, has-datatype, kept_whole, kept-not}
 
-keeps : (s : List ℕ) (at : ℕ) (d : Datatype) (f : Field) → format_faults s at (some d) f ≡ [] → is_some (kept_format d (text_in s f)) ≡ true
+keeps : (s : List ℕ) (at : ℕ) (d : Datatype) (f : Option ℕ) → format_faults s at (Some d) f ≡ [] → is_some (kept_format d (text_in s f)) ≡ true
 unfolding format_faults given_faults format_rule text_in kept_format
-keeps s at d Absent e = rule-kept (is_some (when_missing d)) _ e
-keeps s at d (First k) e =
+keeps s at d None e = rule-kept (is_some (when_missing d)) _ e
+keeps s at d (Some k) e =
     let g = (kind-none (is_string_at s k) k _ e).1 in
     both (is_kept d)
     (λ q. ap is_some (kept_whole d (string_bytes s k) q (rule-kept (is_format d (string_bytes s k)) _ (no-faults s k (format_rule d k) (sym (ap (λ (b : Bool). given_faults b d s k) q) ∙ g)).1)))
@@ -42,13 +40,13 @@ unfolding text_of
 kept d g h = go (kept_format d g) refl h
   where
     go : (o : Option (List ℕ)) → kept_format d g ≡ o → is_some o ≡ true → Kept d g
-    go none e p = absurd (false≢true p)
-    go (some f) e p = record { valid = rw e (kept-valid d g f e); short = rw e (kept-short d g f e) }
+    go None e p = absurd (false≢true p)
+    go (Some f) e p = record { valid = rw e (kept-valid d g f e); short = rw e (kept-short d g f e) }
 
-fitting : (s : List ℕ) (at : ℕ) (o : Option Datatype) (f : Field) → is_some o ≡ true → format_faults s at o f ≡ [] → Kept (type_of o) (text_in s f)
+fitting : (s : List ℕ) (at : ℕ) (o : Option Datatype) (f : Option ℕ) → is_some o ≡ true → format_faults s at o f ≡ [] → Kept (type_of o) (text_in s f)
 unfolding type_of
-fitting s at none f n h = absurd (false≢true n)
-fitting s at (some d) f n h = kept d (text_in s f) (keeps s at d f h)
+fitting s at None f n h = absurd (false≢true n)
+fitting s at (Some d) f n h = kept d (text_in s f) (keeps s at d f h)
 
 field-none : (s : List ℕ) (k : ℕ) → property_field_faults s k ≡ [] → Kept (type_of (datatype_in s (field s k datatype))) (text_in s (field s k format))
 unfolding property_field_faults

@@ -7,7 +7,7 @@ use Rattle.properties.specs.declared.Entry.{Entry}
 use Rattle.properties.specs.declared.Entries.{Entries}
 use Rattle.properties.specs.Property.{Property, text_of, insert}
 
--- `Bad`, which no valid property has, reads as the empty string, as `NotKept` does: which of the two an entry has changes nothing that it means
+-- a format that is not valid, `None`, which no valid property has, reads as the empty string, as `NotKept` does: which of the two an entry has changes nothing that it means
 unfoldable pub content : List ℕ → Entry → Property
 content s e = record {
   node = string_bytes s e.node;

@@ -1,12 +1,10 @@
 -- A property of a description (paper 01, "The description"; paper 02, K4): the faults of its object, what it declares, and the order of properties.
-use Rattle.std.specs.Prelude.{ℕ, List, [], ◌∷◌, ◌++◌, Bool, true, false, ◌&&◌, ◌||◌}
-use Rattle.std.proofs.Math.Option.{Option, none, some}
+use Rattle.std.specs.Prelude.{ℕ, List, [], ◌∷◌, ◌++◌, Bool, true, false, ◌&&◌, ◌||◌, Option, None, Some}
 use Rattle.text.specs.Bytes.{eq_bytes, less_bytes}
 use Rattle.fields.specs.Values.{string_bytes, is_string_at, is_object}
-use Rattle.faults.specs.Faults.{Fault, missing, other_rule, ◌otherwise◌}
+use Rattle.faults.specs.declared.Fault.{Fault}
+use Rattle.faults.specs.Faults.{missing, other_rule, ◌otherwise◌}
 use Rattle.fields.specs.Fields.{field, text_in, flag_in, of_kind, decoded_faults, field_faults, close_at, name_faults}
-use Rattle.fields.specs.declared.Field.{Field}
-use Rattle.fields.specs.declared.Field.TheVariants.{Absent, First}
 use Rattle.fields.specs.declared.Kind.TheVariants.{Text, Flag}
 use Rattle.fields.specs.declared.Owner.TheVariants as owner
 use Rattle.payload.specs.Datatypes.{datatype_named}
@@ -17,18 +15,18 @@ use Rattle.payload.specs.declared.Datatype.TheVariants as D
 use Rattle.properties.specs.Names.{datatype, name, unit, format, settable, retained}
 
 -- "`datatype` (required, one of the nine above)": the datatype that a field names. A string with half a surrogate pair has no bytes, and names none
-unfoldable pub datatype_in : List ℕ → Field → Option Datatype
-datatype_in s Absent = none
-datatype_in s (First k) = elim (is_string_at s k) [ true ↦ datatype_named (string_bytes s k) | false ↦ none ]
+unfoldable pub datatype_in : List ℕ → Option ℕ → Option Datatype
+datatype_in s None = None
+datatype_in s (Some k) = elim (is_string_at s k) [ true ↦ datatype_named (string_bytes s k) | false ↦ None ]
 
 -- "one of the nine above": the bytes t of the string at k name one
 unfoldable pub datatype_rule : ℕ → List ℕ → List Fault
 datatype_rule k t = is_some (datatype_named t) otherwise other_rule k
 
 -- "required": of the property whose object is at `at`
-unfoldable pub datatype_faults : List ℕ → ℕ → Field → List Fault
-datatype_faults s at Absent = missing (close_at s at) ∷ []
-datatype_faults s at (First k) = of_kind (is_string_at s k) k (decoded_faults s k (datatype_rule k))
+unfoldable pub datatype_faults : List ℕ → ℕ → Option ℕ → List Fault
+datatype_faults s at None = missing (close_at s at) ∷ []
+datatype_faults s at (Some k) = of_kind (is_string_at s k) k (decoded_faults s k (datatype_rule k))
 
 -- "Formats, at most 64 bytes where kept": the bytes t of the string at k are one of the datatype
 unfoldable pub format_rule : Datatype → ℕ → List ℕ → List Fault
@@ -53,10 +51,10 @@ given_faults false d s k = []
 
 -- the format, by the property's datatype: "a required field missing, an enum's or colour's format included (place of the object's closing brace)"; where
 -- the datatype is missing, bad or has half a surrogate pair, the format's kind alone is judged
-unfoldable pub format_faults : List ℕ → ℕ → Option Datatype → Field → List Fault
-format_faults s at none f = field_faults Text s f
-format_faults s at (some d) Absent = is_some (when_missing d) otherwise missing (close_at s at)
-format_faults s at (some d) (First k) = of_kind (is_string_at s k) k (given_faults (is_kept d) d s k)
+unfoldable pub format_faults : List ℕ → ℕ → Option Datatype → Option ℕ → List Fault
+format_faults s at None f = field_faults Text s f
+format_faults s at (Some d) None = is_some (when_missing d) otherwise missing (close_at s at)
+format_faults s at (Some d) (Some k) = of_kind (is_string_at s k) k (given_faults (is_kept d) d s k)
 
 -- "A property: `datatype` (required, one of the nine above), `name`, `unit`, `format` strings, `settable` (default false), `retained`
 -- (default true) booleans.": the faults of the fields of the object at k
@@ -85,13 +83,13 @@ pub record Property : Type 0 where
 
 -- every valid property has a datatype
 unfoldable pub type_of : Option Datatype → Datatype
-type_of none = D.String
-type_of (some d) = d
+type_of None = D.String
+type_of (Some d) = d
 
 -- every valid property keeps a format, which may be empty
 unfoldable pub text_of : Option (List ℕ) → List ℕ
-text_of none = []
-text_of (some t) = t
+text_of None = []
+text_of (Some t) = t
 
 -- the property whose object is at k; the strings at `node` and `id` name it
 unfoldable pub property_at : List ℕ → ℕ → ℕ → ℕ → Property

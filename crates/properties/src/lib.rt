@@ -2,10 +2,8 @@
 #![tactic(auto)]
 
 ghost use Rattle.std.specs.Prelude.{◌≡◌, true, ◌||◌, List, [], ℕ};
-ghost use Rattle.std.proofs.Math.Option.{some};
-ghost use Rattle.fields.specs.declared.Field.TheVariants.{Absent, First};
 ghost use Rattle.faults.specs.Faults.{least};
-ghost use Rattle.payload.specs.Datatypes.{datatype_named, named};
+ghost use Rattle.payload.specs.Datatypes.{datatype_named};
 ghost use Rattle.payload.specs.Formats.{kept_bytes};
 ghost use Rattle.ranges.specs.Ranges.{is_some};
 ghost use Rattle.text.specs.Bytes.{less_bytes};
@@ -21,10 +19,9 @@ ghost use Rattle.properties.specs.Parts.{BothPlain, Fetched, stands, ReadsType, 
 ghost use Rattle.properties.specs.Judged.{Judges};
 ghost use Rattle.properties.specs.Entries.{content, view, Inserted};
 
-use escapes::Decoding;
-use faults::{MISSING, OTHER_RULE, Told, WRONG_KIND};
+use faults::{Fault, FaultKind};
 use fields::{Field, Kind, Known, Owner};
-use payload::{Datatype, Format, Named};
+use payload::{Datatype, Format};
 
 // The most properties that a description may have.
 pub const MOST: usize = 24;
@@ -35,13 +32,14 @@ pub struct Entry {
     pub node: usize,
     pub id: usize,
     pub datatype: Datatype,
-    pub format: Field,
-    pub kept: Format,
+    pub format: Option<usize>,
+    pub kept: Option<Format>,
     pub settable: bool,
     pub retained: bool,
 }
 
 // The first `n` of `items`.
+// Kept by hand: without a heap there is no `Vec`.
 #[derive(Clone, Copy)]
 pub struct Entries {
     pub n: usize,
@@ -51,23 +49,24 @@ pub struct Entries {
 // A property's object judged: what is told of its faults, and if there is none, what it declares.
 #[derive(Clone, Copy)]
 pub struct Judged {
-    pub told: Told,
+    pub told: Option<Fault>,
     pub entry: Entry,
 }
 
 // A property's datatype, as far as it is named, and its format, as far as it is kept, with what is told of their faults.
 #[derive(Clone, Copy)]
 pub struct TypeRead {
-    pub told: Told,
-    pub named: Named,
+    pub told: Option<Fault>,
+    pub named: Option<Datatype>,
 }
 
 #[derive(Clone, Copy)]
 pub struct FormatRead {
-    pub told: Told,
-    pub kept: Format,
+    pub told: Option<Fault>,
+    pub kept: Option<Format>,
 }
 
+// Kept by hand: the order is that of decoded strings, and without a heap no type here holds one that could derive it.
 // Whether what `a` writes stands before what `b` writes; `plain` tells that neither has a backslash.
 fn precedes(a: &[u8], b: &[u8], plain: bool) -> bool
     ensures { BothPlain a.now b.now plain → result ≡ less_bytes (written a.now) (written b.now) }
@@ -105,13 +104,8 @@ fn is_before(
     }
     let other = fields::raw_bytes_by(s, c, ends);
     let neither = json_text::is_plain_by(s, c, ends) & plain;
-    if precedes(node, other, neither) {
-        return true;
-    }
-    if precedes(other, node, neither) {
-        return false;
-    }
-    id_precedes(s, id, plain, d, ends)
+    precedes(node, other, neither)
+        || (!precedes(other, node, neither) && id_precedes(s, id, plain, d, ends))
 }
 
 // Whether it does, or is in its place already.
@@ -128,10 +122,7 @@ fn takes_place(
 ) -> bool
     ensures { Ends s.now ends.now → (b : ℕ) → Fetched s.now a b node.now id.now plain → result ≡ (placed || stands s.now a b c d) }
 {
-    if placed {
-        return true;
-    }
-    is_before(s, a, node, id, plain, c, d, ends)
+    placed || is_before(s, a, node, id, plain, c, d, ends)
 }
 
 // An entry that declares nothing, for the property with these IDs.
@@ -139,11 +130,11 @@ pub fn blank(node: usize, id: usize) -> Entry
     ensures { (result.node ≡ node) × (result.id ≡ id) }
 {
     Entry {
-        node: node,
-        id: id,
+        node,
+        id,
         datatype: Datatype::String,
-        format: Field::Absent,
-        kept: Format::NotKept,
+        format: None,
+        kept: Some(Format::NotKept),
         settable: false,
         retained: false,
     }
@@ -174,23 +165,16 @@ pub fn insert(s: &[u8], e: Entry, l: Entries, ends: &[u16]) -> Entries
     let plain = json_text::is_plain_by(s, e.node, ends) & json_text::is_plain_by(s, e.id, ends);
     let mut carry = e;
     let mut placed = false;
-    let mut j = 0;
-    while j < n {
+    for j in 0..n {
         let y = items[j];
-        let i = j;
-        j += 1;
         placed = takes_place(s, placed, e.node, node, id, plain, y.node, y.id, ends);
         if placed {
-            let x = items[i];
-            items[i] = carry;
-            carry = x;
+            items[j] = carry;
+            carry = y;
         }
     }
     items[n] = carry;
-    Entries {
-        n: n + 1,
-        items: items,
-    }
+    Entries { n: n + 1, items }
 }
 
 // The datatype that the bytes `t` of a string at `value` name.
@@ -199,12 +183,12 @@ fn type_named(value: usize, t: &[u8]) -> TypeRead
 {
     let name = payload::read_datatype(t);
     match name {
-        Named::Unknown => TypeRead {
-            told: Told::At(value, OTHER_RULE),
+        None => TypeRead {
+            told: Some(FaultKind::RuleBroken.at(value)),
             named: name,
         },
-        Named::Known(_) => TypeRead {
-            told: Told::Nothing,
+        Some(_) => TypeRead {
+            told: None,
             named: name,
         },
     }
@@ -216,15 +200,15 @@ fn decoded_type(s: &[u8], k: usize) -> TypeRead
 {
     let mut name = [0u8; 16];
     match fields::decode_at(s, k, &mut name) {
-        Decoding::Half(p) => TypeRead {
-            told: Told::At(p, OTHER_RULE),
-            named: Named::Unknown,
+        Err(p) => TypeRead {
+            told: Some(FaultKind::RuleBroken.at(p)),
+            named: None,
         },
-        Decoding::Whole(n) => {
+        Ok(n) => {
             if n > 16 {
                 return TypeRead {
-                    told: Told::At(k, OTHER_RULE),
-                    named: Named::Unknown,
+                    told: Some(FaultKind::RuleBroken.at(k)),
+                    named: None,
                 };
             }
             type_named(k, text::slice(&name, 0, n))
@@ -233,47 +217,41 @@ fn decoded_type(s: &[u8], k: usize) -> TypeRead
 }
 
 // The datatype that a field names, of the property whose object is at `at`.
-fn datatype_of(s: &[u8], at: usize, f: Field, ends: &[u16]) -> TypeRead
+fn datatype_of(s: &[u8], at: usize, f: Option<usize>, ends: &[u16]) -> TypeRead
     ensures { Ends s.now ends.now → ReadsType (datatype_faults s.now at f) (datatype_in s.now f) result }
 {
-    let Field::First(value) = f else {
+    let Some(value) = f else {
         let close = fields::close_of(s, at, ends);
         return TypeRead {
-            told: Told::At(close, MISSING),
-            named: Named::Unknown,
+            told: Some(FaultKind::FieldMissing.at(close)),
+            named: None,
         };
     };
     if !fields::is_string(s, value) {
         return TypeRead {
-            told: Told::At(value, WRONG_KIND),
-            named: Named::Unknown,
+            told: Some(FaultKind::WrongKind.at(value)),
+            named: None,
         };
     }
     let name = payload::read_datatype(fields::raw_bytes_by(s, value, ends));
     match name {
-        Named::Unknown => decoded_type(s, value),
-        Named::Known(_) => TypeRead {
-            told: Told::Nothing,
+        None => decoded_type(s, value),
+        Some(_) => TypeRead {
+            told: None,
             named: name,
         },
     }
 }
 
 // Whether the datatype's format is kept.
+#[tactic(auto, unfolding(crate::specs::Property::is_kept))]
 fn is_kept(d: Datatype) -> bool
     ensures { result ≡ is_kept d }
 {
-    match d {
-        Datatype::String => false,
-        Datatype::Integer => true,
-        Datatype::Float => true,
-        Datatype::Boolean => true,
-        Datatype::Enum => true,
-        Datatype::Color => true,
-        Datatype::Datetime => false,
-        Datatype::Duration => false,
-        Datatype::Json => false,
-    }
+    matches!(
+        d,
+        Datatype::Integer | Datatype::Float | Datatype::Boolean | Datatype::Enum | Datatype::Color
+    )
 }
 
 // The format whose bytes are `t`, of the string at `place`, for a datatype whose format is kept.
@@ -282,13 +260,13 @@ fn judged_format(d: Datatype, place: usize, t: &[u8]) -> FormatRead
 {
     if payload::is_format(d, t) {
         return FormatRead {
-            told: Told::Nothing,
-            kept: Format::AsGiven,
+            told: None,
+            kept: Some(Format::AsGiven),
         };
     }
     FormatRead {
-        told: Told::At(place, OTHER_RULE),
-        kept: Format::Bad,
+        told: Some(FaultKind::RuleBroken.at(place)),
+        kept: None,
     }
 }
 
@@ -298,15 +276,15 @@ fn decoded_format(s: &[u8], d: Datatype, i: usize) -> FormatRead
 {
     let mut format = [0u8; payload::FORMAT_MOST];
     match fields::decode_at(s, i, &mut format) {
-        Decoding::Half(half) => FormatRead {
-            told: Told::At(half, OTHER_RULE),
-            kept: Format::Bad,
+        Err(half) => FormatRead {
+            told: Some(FaultKind::RuleBroken.at(half)),
+            kept: None,
         },
-        Decoding::Whole(n) => {
+        Ok(n) => {
             if n > payload::FORMAT_MOST {
                 return FormatRead {
-                    told: Told::At(i, OTHER_RULE),
-                    kept: Format::Bad,
+                    told: Some(FaultKind::RuleBroken.at(i)),
+                    kept: None,
                 };
             }
             judged_format(d, i, text::slice(&format, 0, n))
@@ -316,18 +294,18 @@ fn decoded_format(s: &[u8], d: Datatype, i: usize) -> FormatRead
 
 // The format that stands at `place`, of a property of datatype d.
 fn given_format(s: &[u8], d: Datatype, place: usize, ends: &[u16]) -> FormatRead
-    ensures { Ends s.now ends.now → (at : ℕ) → ReadsFormat s.now at (some d) (First place) result }
+    ensures { Ends s.now ends.now → (at : ℕ) → ReadsFormat s.now at (Some d) (Some place) result }
 {
     if !fields::is_string(s, place) {
         return FormatRead {
-            told: Told::At(place, WRONG_KIND),
-            kept: Format::NotKept,
+            told: Some(FaultKind::WrongKind.at(place)),
+            kept: Some(Format::NotKept),
         };
     }
     if !is_kept(d) {
         return FormatRead {
-            told: Told::Nothing,
-            kept: Format::NotKept,
+            told: None,
+            kept: Some(Format::NotKept),
         };
     }
     let raw = fields::raw_bytes_by(s, place, ends);
@@ -338,100 +316,79 @@ fn given_format(s: &[u8], d: Datatype, place: usize, ends: &[u16]) -> FormatRead
     decoded_format(s, d, place)
 }
 
-// Whether a format is valid, by what is kept of it.
-fn is_valid(kept: Format) -> bool
-    ensures { (t : List ℕ) → result ≡ is_some (kept_bytes t kept) }
-{
-    match kept {
-        Format::Bad => false,
-        Format::AsGiven => true,
-        Format::Colon => true,
-        Format::FalseTrue => true,
-        Format::NotKept => true,
-    }
-}
-
 // What is kept where no format is given to the property of datatype d whose object is at `at`.
 fn no_format(s: &[u8], at: usize, d: Datatype, ends: &[u16]) -> FormatRead
-    ensures { Ends s.now ends.now → ReadsFormat s.now at (some d) Absent result }
+    ensures { Ends s.now ends.now → ReadsFormat s.now at (Some d) None result }
 {
-    let kept = payload::judge_format(d, false, &s[..0]);
-    if !is_valid(kept) {
+    let Some(kept) = payload::judge_format(d, false, &s[..0]) else {
         let brace = fields::close_of(s, at, ends);
         return FormatRead {
-            told: Told::At(brace, MISSING),
-            kept: kept,
+            told: Some(FaultKind::FieldMissing.at(brace)),
+            kept: None,
         };
-    }
+    };
     FormatRead {
-        told: Told::Nothing,
-        kept: kept,
+        told: None,
+        kept: Some(kept),
     }
 }
 
 // The format of the property whose object is at `at`, by its datatype.
-fn format_of(s: &[u8], at: usize, name: Named, f: Field, ends: &[u16]) -> FormatRead
-    ensures { Ends s.now ends.now → ReadsFormat s.now at (named name) f result }
+fn format_of(
+    s: &[u8],
+    at: usize,
+    name: Option<Datatype>,
+    f: Option<usize>,
+    ends: &[u16],
+) -> FormatRead
+    ensures { Ends s.now ends.now → ReadsFormat s.now at name f result }
 {
-    let Named::Known(d) = name else {
+    let Some(d) = name else {
         return FormatRead {
             told: fields::field_told(s, f, Kind::Text, ends),
-            kept: Format::NotKept,
+            kept: Some(Format::NotKept),
         };
     };
     match f {
-        Field::Absent => no_format(s, at, d, ends),
-        Field::First(k) => given_format(s, d, k, ends),
+        None => no_format(s, at, d, ends),
+        Some(k) => given_format(s, d, k, ends),
     }
 }
 
 // What is told of the fields `name` and `unit`.
-fn texts_told(s: &[u8], seen: &[usize; 16], ends: &[u16]) -> Told
-    ensures { Ends s.now ends.now → result ≡ least (text_faults s.now seen.now) }
+fn texts_told(s: &[u8], m: &Known, ends: &[u16]) -> Option<Fault>
+    ensures { Ends s.now ends.now → result ≡ least (text_faults s.now m.now.seen) }
 {
-    let name = fields::field_told(s, fields::field_at(seen, fields::NAME), Kind::Text, ends);
-    let unit = fields::field_told(s, fields::field_at(seen, fields::UNIT), Kind::Text, ends);
+    let name = fields::field_told(s, m.get(Field::Name), Kind::Text, ends);
+    let unit = fields::field_told(s, m.get(Field::Unit), Kind::Text, ends);
     faults::earlier(name, unit)
 }
 
 // What is told of the fields `settable` and `retained`.
-fn flags_told(s: &[u8], seen: &[usize; 16], ends: &[u16]) -> Told
-    ensures { Ends s.now ends.now → result ≡ least (flag_faults s.now seen.now) }
+fn flags_told(s: &[u8], m: &Known, ends: &[u16]) -> Option<Fault>
+    ensures { Ends s.now ends.now → result ≡ least (flag_faults s.now m.now.seen) }
 {
-    let settable = fields::field_told(
-        s,
-        fields::field_at(seen, fields::SETTABLE),
-        Kind::Flag,
-        ends,
-    );
-    let retained = fields::field_told(
-        s,
-        fields::field_at(seen, fields::RETAINED),
-        Kind::Flag,
-        ends,
-    );
+    let settable = fields::field_told(s, m.get(Field::Settable), Kind::Flag, ends);
+    let retained = fields::field_told(s, m.get(Field::Retained), Kind::Flag, ends);
     faults::earlier(settable, retained)
 }
 
-fn type_of(name: Named) -> Datatype
-    ensures { result ≡ type_of (named name) }
+#[tactic(auto, unfolding(crate::specs::Property::type_of))]
+fn type_of(name: Option<Datatype>) -> Datatype
+    ensures { result ≡ type_of name }
 {
-    match name {
-        Named::Unknown => Datatype::String,
-        Named::Known(d) => d,
-    }
+    name.unwrap_or(Datatype::String)
 }
 
 // The property whose object is at `k` and has these fields, named by the strings at `n` and `i`.
 fn property_by(s: &[u8], n: usize, i: usize, k: usize, m: Known, ends: &[u16]) -> Judged
     ensures { Ends s.now ends.now → Knows owner.Property s.now k m → Judges (property_field_faults s.now k) (property_at s.now n i k) s.now result }
 {
-    let seen = m.seen;
     let names = m.told;
-    let d = datatype_of(s, k, fields::field_at(&seen, fields::DATATYPE), ends);
+    let d = datatype_of(s, k, m.get(Field::Datatype), ends);
     let name = d.named;
     let typed = d.told;
-    let given = fields::field_at(&seen, fields::FORMAT);
+    let given = m.get(Field::Format);
     let f = format_of(s, k, name, given, ends);
     let kept = f.kept;
     let formed = f.told;
@@ -440,13 +397,13 @@ fn property_by(s: &[u8], n: usize, i: usize, k: usize, m: Known, ends: &[u16]) -
         id: i,
         datatype: type_of(name),
         format: given,
-        kept: kept,
-        settable: fields::flag_in(s, fields::field_at(&seen, fields::SETTABLE), false),
-        retained: fields::flag_in(s, fields::field_at(&seen, fields::RETAINED), true),
+        kept,
+        settable: fields::flag_in(s, m.get(Field::Settable), false),
+        retained: fields::flag_in(s, m.get(Field::Retained), true),
     };
     let first = faults::earlier(names, typed);
-    let second = faults::earlier(texts_told(s, &seen, ends), formed);
-    let third = faults::earlier(second, flags_told(s, &seen, ends));
+    let second = faults::earlier(texts_told(s, &m, ends), formed);
+    let third = faults::earlier(second, flags_told(s, &m, ends));
     Judged {
         told: faults::earlier(first, third),
         entry: e,
@@ -459,7 +416,7 @@ pub fn property_at(s: &[u8], node: usize, id: usize, k: usize, ends: &[u16]) -> 
 {
     if !fields::is_object(s, k) {
         return Judged {
-            told: Told::At(k, WRONG_KIND),
+            told: Some(FaultKind::WrongKind.at(k)),
             entry: blank(node, id),
         };
     }

@@ -1,4 +1,5 @@
 -- Places of a room as places of the memory.
+use Rattle.std.specs.Prelude.{Option, Some}
 use Prim.Native.Nat.{ℕ, ◌+◌, ◌≤◌}
 use native.Mathlib.Omega.{arith}
 use mathlib.Core.Path.{◌≡◌, sym, ap, ◌∙◌, subst}
@@ -9,13 +10,11 @@ use Rattle.text.specs.Places.{bytes_at, Within}
 use Rattle.memory.specs.Bytes.{span}
 use Rattle.memory.specs.Layout.{room_size}
 use Rattle.memory.proofs.Flat.{length-span}
-use Rattle.device.specs.declared.Text.{Text}
-use Rattle.device.specs.declared.Text.TheVariants as text
 use Rattle.device.specs.Meaning.{TextIn, Inside, shifted}
 use Rattle.device.proofs.Theorems.{text_in-memory}
 
 -- a text that stands somewhere stands there
-pub inside_at : (n : ℕ) (x : Text) (p : Place) → Inside n x → x ≡ text.At p → Within n p
+pub inside_at : (n : ℕ) (x : Option Place) (p : Place) → Inside n x → x ≡ Some p → Within n p
 inside_at n x p h e = subst (Inside n) e h
 
 module _ (m room : List ℕ) (start : ℕ) (h : start + room_size ≤ length m) (g : room ≡ span m start room_size) where
@@ -25,7 +24,7 @@ module _ (m room : List ℕ) (start : ℕ) (h : start + room_size ≤ length m) 
   pub in-room : (p : Place) → Within (length room) p → Within room_size p
   in-room p = subst (λ (n : ℕ). Within n p) size_is
 
-  pub text_in-room : (x : Text) → Inside (length room) x → Inside room_size x
+  pub text_in-room : (x : Option Place) → Inside (length room) x → Inside room_size x
   text_in-room x = subst (λ (n : ℕ). Inside n x) size_is
 
 module _ (m : List ℕ) (start : ℕ) (h : start + room_size ≤ length m) (p : Place) (w : Within room_size p) where

@@ -1,11 +1,11 @@
 -- What this crate promises beyond its contracts.
+use Rattle.std.specs.Prelude.{None, Some}
 use Prim.Native.Nat.{ℕ}
 use Prim.Native.String.{String}
 use mathlib.Core.Path.{◌≡◌, refl}
 use mathlib.Core.Logic.{◌↔◌, ◌⊎◌}
 use mathlib.Core.List.{List, [], ◌∷◌}
 use mathlib.Core.Bool.{Bool, true, false}
-use mathlib.Core.Option.{none, some}
 use lib.IntN.{ℤ, pos}
 use lib.Signed.{le_z}
 use Rattle.abnf.specs.Abnf.{◌∈◌}
@@ -25,34 +25,34 @@ use Rattle.ranges.proofs.Payloads.{integers_are, floats_are}
 
 -- ---- formats: "integer and float `[min]:[max][:step]`, each number of the property's own type [..]; min not above max, step above 0", and no others
 
-pub integer_formats : (s : List ℕ) (r : Range ℤ) → (integer_range s ≡ some r) ↔ IsRange integer-text value (λ t. is_64_bit (value t)) le_z positive s r
+pub integer_formats : (s : List ℕ) (r : Range ℤ) → (integer_range s ≡ Some r) ↔ IsRange integer-text value (λ t. is_64_bit (value t)) le_z positive s r
 integer_formats = integer_range_lem
 
-pub float_formats : (s : List ℕ) (r : Range Scientific) → (float_range s ≡ some (exactly r)) ↔ ((has_step s ≡ false) × IsRange float-text scientific is_small le_decimal (λ step. true) s r)
+pub float_formats : (s : List ℕ) (r : Range Scientific) → (float_range s ≡ Some (exactly r)) ↔ ((has_step s ≡ false) × IsRange float-text scientific is_small le_decimal (λ step. true) s r)
 float_formats = exact_range_lem
 
 -- K7: with a step, in whole billionths
-pub stepped_formats : (s : List ℕ) (r : Range ℤ) → (float_range s ≡ some (stepped r)) ↔ ((has_step s ≡ true) × IsRange fixed-text in_billionths (λ t. true) le_z positive s r)
+pub stepped_formats : (s : List ℕ) (r : Range ℤ) → (float_range s ≡ Some (stepped r)) ↔ ((has_step s ≡ true) × IsRange fixed-text in_billionths (λ t. true) le_z positive s r)
 stepped_formats = stepped_range
 
 -- `::5` is a format; `1:2:`, the empty string, `5:1` and `::0` are none
-pub step_alone : integer_range (0x3A ∷ 0x3A ∷ 0x35 ∷ []) ≡ some (record { min = none; max = none; step = some (pos 5) })
+pub step_alone : integer_range (0x3A ∷ 0x3A ∷ 0x35 ∷ []) ≡ Some (record { min = None; max = None; step = Some (pos 5) })
 unfolding integer_range range_of each_read split onto integer value numeral digits accepts starts again is_empty
 step_alone = refl
 
-pub step-due : integer_range (0x31 ∷ 0x3A ∷ 0x32 ∷ 0x3A ∷ []) ≡ none
+pub step-due : integer_range (0x31 ∷ 0x3A ∷ 0x32 ∷ 0x3A ∷ []) ≡ None
 unfolding integer_range range_of each_read split onto integer value numeral digits accepts starts again is_empty
 step-due = refl
 
-pub no-colon : integer_range [] ≡ none
+pub no-colon : integer_range [] ≡ None
 unfolding integer_range range_of each_read split onto integer value numeral digits accepts starts again is_empty
 no-colon = refl
 
-pub turned : integer_range (0x35 ∷ 0x3A ∷ 0x31 ∷ []) ≡ none
+pub turned : integer_range (0x35 ∷ 0x3A ∷ 0x31 ∷ []) ≡ None
 unfolding integer_range range_of each_read split onto integer value numeral digits accepts starts again is_empty
 turned = refl
 
-pub step_0 : integer_range (0x3A ∷ 0x3A ∷ 0x30 ∷ []) ≡ none
+pub step_0 : integer_range (0x3A ∷ 0x3A ∷ 0x30 ∷ []) ≡ None
 unfolding integer_range range_of each_read split onto integer value numeral digits accepts starts again is_empty
 step_0 = refl
 
@@ -67,12 +67,12 @@ shapes = (refl, refl, refl, refl, refl, refl)
 -- ---- payloads
 
 -- "the rounded value is held against min and max": exactly the texts of 64-bit integers whose rounded value lies within the bounds
-pub integers : (format s : List ℕ) → (is_integer format s ≡ true) ↔ ((r : Range ℤ) × (integer_range format ≡ some r) × (s ∈ integer-text) × (is_64_bit (value s) ≡ true) × (holds_whole r (value s) ≡ true))
+pub integers : (format s : List ℕ) → (is_integer format s ≡ true) ↔ ((r : Range ℤ) × (integer_range format ≡ Some r) × (s ∈ integer-text) × (is_64_bit (value s) ≡ true) × (holds_whole r (value s) ≡ true))
 integers = integers_are
 
 -- "Floats are held against min and max unrounded"; with a step (K7) their billionths are rounded as integers are
-pub floats : (format s : List ℕ) → (is_float format s ≡ true) ↔ (((r : Range Scientific) × (float_range format ≡ some (exactly r)) × (s ∈ float-text) × (is_small s ≡ true) × (holds_float r (scientific s) ≡ true))
-    ⊎ ((r : Range ℤ) × (float_range format ≡ some (stepped r)) × (s ∈ fixed-text) × (holds_whole r (in_billionths s) ≡ true)))
+pub floats : (format s : List ℕ) → (is_float format s ≡ true) ↔ (((r : Range Scientific) × (float_range format ≡ Some (exactly r)) × (s ∈ float-text) × (is_small s ≡ true) × (holds_float r (scientific s) ≡ true))
+    ⊎ ((r : Range ℤ) × (float_range format ≡ Some (stepped r)) × (s ∈ fixed-text) × (holds_whole r (in_billionths s) ≡ true)))
 floats = floats_are
 
 -- `:10:4`, whose base is max: 8 yes

@@ -1,11 +1,11 @@
 -- A range's format is a word of its grammar, and the fields that the code cuts write the same range.
+use Rattle.std.specs.Prelude.{Option, None, Some, option_map}
 use Prim.Native.Nat.{ℕ, zero, suc, ◌≤◌}
 use native.Mathlib.Omega.{arith}
 use mathlib.Core.Path.{◌≡◌, refl, sym, ap, ◌∙◌, subst}
 use mathlib.Core.Logic.{◌↔◌}
 use mathlib.Core.List.{List, [], ◌∷◌, ◌++◌, append-nil}
 use mathlib.Core.Bool.{Bool, true, false, not, ◌&&◌, ◌||◌, cond, false≢true}
-use mathlib.Core.Option.{Option, none, some, map}
 use lib.Dec.{ltb, eqb}
 use lib.ListN.{length, get_or}
 use lib.IntN.{ℤ}
@@ -74,29 +74,29 @@ colon = byte {lo = 0x3A} {hi = 0x3A} {b = 0x3A} (omega arith) (omega arith)
 -- ---- numbers of a type: no text has a colon, none is empty, and each that fits is read as its value
 module _ {N : Type 0} (number : Abnf ⊥) (read : List ℕ → Option N) (value : List ℕ → N) (fits : List ℕ → Bool) (le : N → N → Bool) (above : N → Bool)
     (plain : avoids 0x3A number ≡ true) (filled : accepts number [] ≡ false) (none-fits : fits [] ≡ true)
-    (words : (s : List ℕ) (z : N) → (read s ≡ some z) ↔ ((s ∈ number) × (fits s ≡ true) × (value s ≡ z))) where
+    (words : (s : List ℕ) (z : N) → (read s ≡ Some z) ↔ ((s ∈ number) × (fits s ≡ true) × (value s ≡ z))) where
   not_empty : [] ∈ number → ⊥
   not_empty w = false≢true (sym filled ∙ word-accepts number [] w)
 
-  read_none : read [] ≡ none
+  read_none : read [] ≡ None
   read_none = go (read []) refl
     where
-      go : (o : Option N) → read [] ≡ o → o ≡ none
-      go none e = refl
-      go (some z) e = absurd (not_empty ((words [] z).0 e).0)
+      go : (o : Option N) → read [] ≡ o → o ≡ None
+      go None e = refl
+      go (Some z) e = absurd (not_empty ((words [] z).0 e).0)
 
   -- a field that is left out or read
   abbrev typed : List ℕ → Bool
   typed f = is_empty f || is_some (read f)
 
   module _ (b : ℕ) (f : List ℕ) where
-    read_some : typed (b ∷ f) ≡ true → ((b ∷ f) ∈ number) × (fits (b ∷ f) ≡ true) × (read (b ∷ f) ≡ some (value (b ∷ f)))
+    read_some : typed (b ∷ f) ≡ true → ((b ∷ f) ∈ number) × (fits (b ∷ f) ≡ true) × (read (b ∷ f) ≡ Some (value (b ∷ f)))
     unfolding is_empty
     read_some e = go (read (b ∷ f)) refl e
       where
-        go : (o : Option N) → read (b ∷ f) ≡ o → is_some o ≡ true → ((b ∷ f) ∈ number) × (fits (b ∷ f) ≡ true) × (read (b ∷ f) ≡ some (value (b ∷ f)))
-        go none q e = absurd (false≢true e)
-        go (some z) q e = let w = (words (b ∷ f) z).0 q in (w.0, w.1, q ∙ ap some (sym w.2))
+        go : (o : Option N) → read (b ∷ f) ≡ o → is_some o ≡ true → ((b ∷ f) ∈ number) × (fits (b ∷ f) ≡ true) × (read (b ∷ f) ≡ Some (value (b ∷ f)))
+        go None q e = absurd (false≢true e)
+        go (Some z) q e = let w = (words (b ∷ f) z).0 q in (w.0, w.1, q ∙ ap Some (sym w.2))
 
   typed-word : (f : List ℕ) → typed f ≡ true → f ∈ opt number
   typed-word [] e = right nothing
@@ -175,20 +175,20 @@ module _ {N : Type 0} (number : Abnf ⊥) (read : List ℕ → Option N) (value 
   each_read_lem (bounds p q) h = rw (word_typed p (h 0), word_typed q (h 1))
   each_read_lem (all p q w) h = rw (word_typed p (h 0), word_typed q (h 1), word_typed (left w) (h 2))
 
-  ordered_of : {m n : Option N} → ordered le m n ≡ true → (a b : N) → m ≡ some a → n ≡ some b → le a b ≡ true
+  ordered_of : {m n : Option N} → ordered le m n ≡ true → (a b : N) → m ≡ Some a → n ≡ Some b → le a b ≡ true
   ordered_of h a b e f = rw (e, f) at h
 
-  of-ordered : (m n : Option N) → ((a b : N) → m ≡ some a → n ≡ some b → le a b ≡ true) → ordered le m n ≡ true
-  of-ordered none n h = refl
-  of-ordered (some a) none h = refl
-  of-ordered (some a) (some b) h = h a b refl refl
+  of-ordered : (m n : Option N) → ((a b : N) → m ≡ Some a → n ≡ Some b → le a b ≡ true) → ordered le m n ≡ true
+  of-ordered None n h = refl
+  of-ordered (Some a) None h = refl
+  of-ordered (Some a) (Some b) h = h a b refl refl
 
-  step_of : {o : Option N} → if_there o above ≡ true → (n : N) → o ≡ some n → above n ≡ true
+  step_of : {o : Option N} → if_there o above ≡ true → (n : N) → o ≡ Some n → above n ≡ true
   step_of h n e = rw e at h
 
-  of-step : (o : Option N) → ((n : N) → o ≡ some n → above n ≡ true) → if_there o above ≡ true
-  of-step none h = refl
-  of-step (some n) h = h n refl
+  of-step : (o : Option N) → ((n : N) → o ≡ Some n → above n ≡ true) → if_there o above ≡ true
+  of-step None h = refl
+  of-step (Some n) h = h n refl
 
   module _ (s : List ℕ) where
     sound : (r : Range N) → s ∈ range-text number → each_read read (fields_of s) ≡ true → valid le above (numbers_of read (fields_of s)) ≡ true → numbers_of read (fields_of s) ≡ r → IsRange number value fits le above s r
@@ -210,39 +210,39 @@ module _ {N : Type 0} (number : Abnf ⊥) (read : List ℕ → Option N) (value 
         let is : (i : ℕ) → read (get_or (fields_of s) i []) ≡ number_in value (get_or (fields_of s) i []) = λ i. typed-written _ (field-typed (fields_of s) e i) in
         λ i. record { min = (is 0 ∙ sym h.min) i; max = (is 1 ∙ sym h.max) i; step = (is 2 ∙ sym h.step) i }
 
-    range-words : (r : Range N) → (range_of number read le above s ≡ some r) ↔ ((s ∈ range-text number) × ((each_read read (fields_of s) && valid le above (numbers_of read (fields_of s))) ≡ true) × (numbers_of read (fields_of s) ≡ r))
+    range-words : (r : Range N) → (range_of number read le above s ≡ Some r) ↔ ((s ∈ range-text number) × ((each_read read (fields_of s) && valid le above (numbers_of read (fields_of s))) ≡ true) × (numbers_of read (fields_of s) ≡ r))
     unfolding range_of
     range-words r = word_value (range-text number) s (each_read read (fields_of s) && valid le above (numbers_of read (fields_of s))) (numbers_of read (fields_of s)) r
 
-    range_to : (r : Range N) → range_of number read le above s ≡ some r → IsRange number value fits le above s r
+    range_to : (r : Range N) → range_of number read le above s ≡ Some r → IsRange number value fits le above s r
     range_to r e =
         let p = (range-words r).0 e in
         let q = and_both (each_read read (fields_of s)) (valid le above (numbers_of read (fields_of s))) p.1 in
         sound r p.0 q.0 q.1 p.2
 
-    range_from : (r : Range N) → IsRange number value fits le above s r → range_of number read le above s ≡ some r
+    range_from : (r : Range N) → IsRange number value fits le above s r → range_of number read le above s ≡ Some r
     range_from r h =
         let e = each_read_lem (word_shape h.word) h.own in
         let q = numbers_are r h e in
         let v : valid le above r ≡ true = rw (of-ordered r.min r.max h.ordered) (of-step r.step h.positive) in
         (range-words r).1 (h.word, rw e (subst (λ (p : Range N). valid le above p ≡ true) (sym q) v), q)
 
-    pub range_is : (r : Range N) → (range_of number read le above s ≡ some r) ↔ IsRange number value fits le above s r
+    pub range_is : (r : Range N) → (range_of number read le above s ≡ Some r) ↔ IsRange number value fits le above s r
     range_is r = (range_to r, range_from r)
 
     -- ---- the fields that the code cuts
 
-    bound_is : (f : List ℕ) → bound read f ≡ cond (typed f) (some (read f)) none
+    bound_is : (f : List ℕ) → bound read f ≡ cond (typed f) (Some (read f)) None
     unfolding bound is_empty
-    bound_is [] = ap some (sym read_none)
+    bound_is [] = ap Some (sym read_none)
     bound_is (b ∷ f) = go (read (b ∷ f))
       where
-        go : (o : Option N) → map some o ≡ cond (is_some o) (some o) none
-        go none = refl
-        go (some z) = refl
+        go : (o : Option N) → option_map Some o ≡ cond (is_some o) (Some o) None
+        go None = refl
+        go (Some z) = refl
 
     tests-two : (t u v : Bool) (a b : Option N) → (u ≡ true → v ≡ true → t ≡ true) →
-        within le (cond u (some a) none) (cond v (some b) none) none ≡ cond (t && ((u && (v && true)) && (ordered le a b && true))) (some (record { min = a; max = b; step = none })) none
+        within le (cond u (Some a) None) (cond v (Some b) None) None ≡ cond (t && ((u && (v && true)) && (ordered le a b && true))) (Some (record { min = a; max = b; step = None })) None
     tests-two true true true a b h = both (ordered le a b) (λ e. rw e) (λ e. rw e)
     tests-two true true false a b h = refl
     tests-two true false v a b h = refl
@@ -251,27 +251,27 @@ module _ {N : Type 0} (number : Abnf ⊥) (read : List ℕ → Option N) (value 
     tests-two false false v a b h = refl
 
     tests-three : (t u v w : Bool) (a b c : Option N) → (u ≡ true → v ≡ true → is_some c ≡ true → t ≡ true) → (t ≡ true → w ≡ is_some c) →
-        with_step le (cond u (some a) none) (cond v (some b) none) (keep above c) ≡ cond (t && ((u && (v && (w && true))) && (ordered le a b && if_there c above))) (some (record { min = a; max = b; step = c })) none
-    tests-three true u v w a b none h k = rw (k refl) (none-three u v)
+        with_step le (cond u (Some a) None) (cond v (Some b) None) (keep above c) ≡ cond (t && ((u && (v && (w && true))) && (ordered le a b && if_there c above))) (Some (record { min = a; max = b; step = c })) None
+    tests-three true u v w a b None h k = rw (k refl) (none-three u v)
       where
-        none-three : (u v : Bool) → ◌≡◌ {A = Option (Range N)} none (cond ((u && (v && false)) && (ordered le a b && true)) (some (record { min = a; max = b; step = none })) none)
+        none-three : (u v : Bool) → ◌≡◌ {A = Option (Range N)} None (cond ((u && (v && false)) && (ordered le a b && true)) (Some (record { min = a; max = b; step = None })) None)
         none-three true true = refl
         none-three true false = refl
         none-three false v = refl
-    tests-three true true true w a b (some n) h k = rw (k refl)
+    tests-three true true true w a b (Some n) h k = rw (k refl)
         (both (above n) (λ e. rw e (both (ordered le a b) (λ f. rw f) (λ f. rw f))) (λ e. rw e (both (ordered le a b) (λ f. rw f) (λ f. rw f))))
-    tests-three true true false w a b (some n) h k = both (above n) (λ e. rw e) (λ e. rw e)
-    tests-three true false v w a b (some n) h k = both (above n) (λ e. rw e) (λ e. rw e)
-    tests-three false u v w a b none h k = refl
-    tests-three false true true w a b (some n) h k = absurd (false≢true (h refl refl refl))
-    tests-three false true false w a b (some n) h k = both (above n) (λ e. rw e) (λ e. rw e)
-    tests-three false false v w a b (some n) h k = both (above n) (λ e. rw e) (λ e. rw e)
+    tests-three true true false w a b (Some n) h k = both (above n) (λ e. rw e) (λ e. rw e)
+    tests-three true false v w a b (Some n) h k = both (above n) (λ e. rw e) (λ e. rw e)
+    tests-three false u v w a b None h k = refl
+    tests-three false true true w a b (Some n) h k = absurd (false≢true (h refl refl refl))
+    tests-three false true false w a b (Some n) h k = both (above n) (λ e. rw e) (λ e. rw e)
+    tests-three false false v w a b (Some n) h k = both (above n) (λ e. rw e) (λ e. rw e)
 
     -- the definition at fields fs
     abbrev by : List (List ℕ) → Option (Range N)
-    by fs = cond (accepts (range-text number) s && (each_read read fs && valid le above (numbers_of read fs))) (some (numbers_of read fs)) none
+    by fs = cond (accepts (range-text number) s && (each_read read fs && valid le above (numbers_of read fs))) (Some (numbers_of read fs)) None
 
-    no_word : {fs : List (List ℕ)} → fields_of s ≡ fs → (Shape fs → ⊥) → none ≡ by fs
+    no_word : {fs : List (List ℕ)} → fields_of s ≡ fs → (Shape fs → ⊥) → None ≡ by fs
     no_word {fs} q n = both (accepts (range-text number) s)
         (λ e. absurd (n (subst Shape q (word_shape (accepts-word (range-text number) s e)))))
         (λ e. rw e)
@@ -279,7 +279,7 @@ module _ {N : Type 0} (number : Abnf ⊥) (read : List ℕ → Option N) (value 
     taken : {fs : List (List ℕ)} → fields_of s ≡ fs → Shape fs → accepts (range-text number) s ≡ true
     taken q h = word-accepts (range-text number) s (shape-word s (subst Shape (sym q) h))
 
-    two-same : (a b : List ℕ) → fields_of s ≡ a ∷ b ∷ [] → within le (bound read a) (bound read b) none ≡ by (a ∷ b ∷ [])
+    two-same : (a b : List ℕ) → fields_of s ≡ a ∷ b ∷ [] → within le (bound read a) (bound read b) None ≡ by (a ∷ b ∷ [])
     unfolding each_read
     two-same a b q =
         rw (bound_is a, bound_is b, read_none)
@@ -294,8 +294,8 @@ module _ {N : Type 0} (number : Abnf ⊥) (read : List ℕ → Option N) (value 
         (λ t. step-there (subst Shape q (word_shape (accepts-word (range-text number) s t)))))
       where
         step-word : (o : Option N) → read c ≡ o → is_some o ≡ true → c ∈ number
-        step-word none e w = absurd (false≢true w)
-        step-word (some z) e w = ((words c z).0 e).0
+        step-word None e w = absurd (false≢true w)
+        step-word (Some z) e w = ((words c z).0 e).0
 
         step-there : Shape (a ∷ b ∷ c ∷ []) → typed c ≡ is_some (read c)
         step-there (all p q w) = word_read _ w
@@ -347,10 +347,10 @@ unfolding significant power before after digits numeral
 no_float-fits = refl
 
 -- the shape is a limit by itself
-pub shape-words : (s : List ℕ) (z : ℤ) → (billionths s ≡ some z) ↔ ((s ∈ fixed-text) × (true ≡ true) × (in_billionths s ≡ z))
+pub shape-words : (s : List ℕ) (z : ℤ) → (billionths s ≡ Some z) ↔ ((s ∈ fixed-text) × (true ≡ true) × (in_billionths s ≡ z))
 shape-words s z = (λ e. let w = (fixed-words s z).0 e in (w.0, refl, w.1), λ h. (fixed-words s z).1 (h.0, h.2))
 
-pub integer_range_lem : (s : List ℕ) (r : Range ℤ) → (integer_range s ≡ some r) ↔ IsRange integer-text value (λ t. is_64_bit (value t)) le_z positive s r
+pub integer_range_lem : (s : List ℕ) (r : Range ℤ) → (integer_range s ≡ Some r) ↔ IsRange integer-text value (λ t. is_64_bit (value t)) le_z positive s r
 unfolding integer_range
 integer_range_lem s r = range_is integer-text integer value (λ t. is_64_bit (value t)) le_z positive integer-plain integer-filled no-integer-fits integer-words s r
 
@@ -360,9 +360,9 @@ integer-fields s = fields-same integer-text integer value (λ t. is_64_bit (valu
 
 -- ---- floats: without a step, and with one
 
-map-some : {A B : Type 0} (f : A → B) (o : Option A) (b : B) → map f o ≡ some b → (a : A) × (o ≡ some a) × (f a ≡ b)
-map-some f none b e = let z : ◌≡◌ {A = ℕ} 0 1 = cc in absurd (omega arith)
-map-some f (some a) b e = (a, refl, let q : f a ≡ b = cc in q)
+map-some : {A B : Type 0} (f : A → B) (o : Option A) (b : B) → option_map f o ≡ Some b → (a : A) × (o ≡ Some a) × (f a ≡ b)
+map-some f None b e = let z : ◌≡◌ {A = ℕ} 0 1 = cc in absurd (omega arith)
+map-some f (Some a) b e = (a, refl, let q : f a ≡ b = cc in q)
 
 exactly_is : (a b : Range Scientific) → exactly a ≡ exactly b → a ≡ b
 exactly_is a b e = cc
@@ -377,36 +377,36 @@ module _ (s : List ℕ) where
   abbrev rounding : Option (Range ℤ)
   rounding = range_of fixed-text billionths le_z positive s
 
-  either : float_range s ≡ cond (has_step s) (map stepped rounding) (map exactly plain)
+  either : float_range s ≡ cond (has_step s) (option_map stepped rounding) (option_map exactly plain)
   unfolding float_range
   either = refl
 
-  plain_is : (r : Range Scientific) → (plain ≡ some r) ↔ IsRange float-text scientific is_small le_decimal (λ step. true) s r
+  plain_is : (r : Range Scientific) → (plain ≡ Some r) ↔ IsRange float-text scientific is_small le_decimal (λ step. true) s r
   plain_is r = range_is float-text decimal scientific is_small le_decimal (λ step. true) float_plain float-filled no_float-fits decimal-words s r
 
-  rounding_is : (r : Range ℤ) → (rounding ≡ some r) ↔ IsRange fixed-text in_billionths (λ t. true) le_z positive s r
+  rounding_is : (r : Range ℤ) → (rounding ≡ Some r) ↔ IsRange fixed-text in_billionths (λ t. true) le_z positive s r
   rounding_is r = range_is fixed-text billionths in_billionths (λ t. true) le_z positive fixed_plain fixed-filled refl shape-words s r
 
-  pub exact_range_lem : (r : Range Scientific) → (float_range s ≡ some (exactly r)) ↔ ((has_step s ≡ false) × IsRange float-text scientific is_small le_decimal (λ step. true) s r)
+  pub exact_range_lem : (r : Range Scientific) → (float_range s ≡ Some (exactly r)) ↔ ((has_step s ≡ false) × IsRange float-text scientific is_small le_decimal (λ step. true) s r)
   exact_range_lem r = (to, from)
     where
-      to : float_range s ≡ some (exactly r) → (has_step s ≡ false) × IsRange float-text scientific is_small le_decimal (λ step. true) s r
+      to : float_range s ≡ Some (exactly r) → (has_step s ≡ false) × IsRange float-text scientific is_small le_decimal (λ step. true) s r
       to e = both (has_step s)
           (λ t. let q = map-some stepped rounding (exactly r) (sym (either ∙ rw t) ∙ e) in let w = q.2 in let z : ◌≡◌ {A = ℕ} 0 1 = cc in absurd (omega arith))
-          (λ t. let q = map-some exactly plain (exactly r) (sym (either ∙ rw t) ∙ e) in (t, (plain_is r).0 (q.1 ∙ ap some (exactly_is q.0 r q.2))))
+          (λ t. let q = map-some exactly plain (exactly r) (sym (either ∙ rw t) ∙ e) in (t, (plain_is r).0 (q.1 ∙ ap Some (exactly_is q.0 r q.2))))
 
-      from : (has_step s ≡ false) × IsRange float-text scientific is_small le_decimal (λ step. true) s r → float_range s ≡ some (exactly r)
+      from : (has_step s ≡ false) × IsRange float-text scientific is_small le_decimal (λ step. true) s r → float_range s ≡ Some (exactly r)
       from h = either ∙ rw (h.0, (plain_is r).1 h.1)
 
-  pub stepped_range : (r : Range ℤ) → (float_range s ≡ some (stepped r)) ↔ ((has_step s ≡ true) × IsRange fixed-text in_billionths (λ t. true) le_z positive s r)
+  pub stepped_range : (r : Range ℤ) → (float_range s ≡ Some (stepped r)) ↔ ((has_step s ≡ true) × IsRange fixed-text in_billionths (λ t. true) le_z positive s r)
   stepped_range r = (to, from)
     where
-      to : float_range s ≡ some (stepped r) → (has_step s ≡ true) × IsRange fixed-text in_billionths (λ t. true) le_z positive s r
+      to : float_range s ≡ Some (stepped r) → (has_step s ≡ true) × IsRange fixed-text in_billionths (λ t. true) le_z positive s r
       to e = both (has_step s)
-          (λ t. let q = map-some stepped rounding (stepped r) (sym (either ∙ rw t) ∙ e) in (t, (rounding_is r).0 (q.1 ∙ ap some (stepped_is q.0 r q.2))))
+          (λ t. let q = map-some stepped rounding (stepped r) (sym (either ∙ rw t) ∙ e) in (t, (rounding_is r).0 (q.1 ∙ ap Some (stepped_is q.0 r q.2))))
           (λ t. let q = map-some exactly plain (stepped r) (sym (either ∙ rw t) ∙ e) in let w = q.2 in let z : ◌≡◌ {A = ℕ} 0 1 = cc in absurd (omega arith))
 
-      from : (has_step s ≡ true) × IsRange fixed-text in_billionths (λ t. true) le_z positive s r → float_range s ≡ some (stepped r)
+      from : (has_step s ≡ true) × IsRange fixed-text in_billionths (λ t. true) le_z positive s r → float_range s ≡ Some (stepped r)
       from h = either ∙ rw (h.0, (rounding_is r).1 h.1)
 
   plain-fields : from_fields decimal le_decimal (λ step. true) (fields s) ≡ plain
@@ -415,7 +415,7 @@ module _ (s : List ℕ) where
   rounding-fields : from_fields billionths le_z positive (fields s) ≡ rounding
   rounding-fields = fields-same fixed-text billionths in_billionths (λ t. true) le_z positive fixed_plain fixed-filled refl shape-words s
 
-by_count : (fs : List (List ℕ)) → float_fields (counted fs) ≡ cond (ltb 2 (length fs)) (map stepped (from_fields billionths le_z positive (counted fs))) (map exactly (from_fields decimal le_decimal (λ step. true) (counted fs)))
+by_count : (fs : List (List ℕ)) → float_fields (counted fs) ≡ cond (ltb 2 (length fs)) (option_map stepped (from_fields billionths le_z positive (counted fs))) (option_map exactly (from_fields decimal le_decimal (λ step. true) (counted fs)))
 unfolding counted from_fields
 by_count [] = refl
 by_count (a ∷ []) = refl
@@ -426,6 +426,6 @@ by_count (a ∷ b ∷ c ∷ d ∷ fs) = rw (lt-ltb 2 (length (a ∷ b ∷ c ∷ 
 pub float-fields : (s : List ℕ) → float_fields (fields s) ≡ float_range s
 unfolding fields
 float-fields s = by_count (fields_of s)
-    ∙ ap (λ (o : Option (Range ℤ)). cond (has_step s) (map stepped o) (map exactly (from_fields decimal le_decimal (λ step. true) (fields s)))) (rounding-fields s)
-    ∙ ap (λ (o : Option (Range Scientific)). cond (has_step s) (map stepped (rounding s)) (map exactly o)) (plain-fields s)
+    ∙ ap (λ (o : Option (Range ℤ)). cond (has_step s) (option_map stepped o) (option_map exactly (from_fields decimal le_decimal (λ step. true) (fields s)))) (rounding-fields s)
+    ∙ ap (λ (o : Option (Range Scientific)). cond (has_step s) (option_map stepped (rounding s)) (option_map exactly o)) (plain-fields s)
     ∙ sym (either s)

@@ -1,6 +1,5 @@
 -- What the theorems say of formats and payloads, in the words of the grammars.
-use Rattle.std.specs.Prelude.{ℕ, zero, suc, ◌≡◌, List, [], Bool, true, cond, get_or, ℤ}
-use Rattle.std.proofs.Math.Option.{Option, none, some}
+use Rattle.std.specs.Prelude.{ℕ, zero, suc, ◌≡◌, List, [], Bool, true, cond, get_or, ℤ, Option, None, Some}
 use Rattle.abnf.specs.Abnf.{Abnf, ◌∈◌}
 use Rattle.abnf.specs.Accepts.{is_empty}
 use Rattle.numbers.specs.Step.{rounded, in_bounds, base}
@@ -12,7 +11,7 @@ use Rattle.ranges.specs.Ranges.{Range, range-text, fields_of, step_of}
 
 -- the number that a field writes, if it is not left out
 abbrev pub number_in : {N : Type 0} → (List ℕ → N) → List ℕ → Option N
-number_in value f = cond (is_empty f) none (some (value f))
+number_in value f = cond (is_empty f) None (Some (value f))
 
 -- Numbers of a type have the texts `number`, each of which writes a value; `fits` tells which of these texts are within the type's limits (64 bits; 18 digits and the exponent's range; texts of K7's shape are within theirs).
 pub record IsRange {N : Type 0} (number : Abnf ⊥) (value : List ℕ → N) (fits : List ℕ → Bool) (le : N → N → Bool) (above : N → Bool) (s : List ℕ) (r : Range N) : Type 0 where
@@ -24,17 +23,17 @@ pub record IsRange {N : Type 0} (number : Abnf ⊥) (value : List ℕ → N) (fi
   pub max : r.max ≡ number_in value (get_or (fields_of s) 1 [])
   pub step : r.step ≡ number_in value (get_or (fields_of s) 2 [])
   -- "min not above max"
-  pub ordered : (a b : N) → r.min ≡ some a → r.max ≡ some b → le a b ≡ true
+  pub ordered : (a b : N) → r.min ≡ Some a → r.max ≡ Some b → le a b ≡ true
   -- "step above 0"
-  pub positive : (n : N) → r.step ≡ some n → above n ≡ true
+  pub positive : (n : N) → r.step ≡ Some n → above n ≡ true
 
 -- ---- payloads
 
 -- a value as it is held against the bounds: rounded where there are a step and a base
 abbrev pub rounded_to : Option ℤ → ℕ → ℤ → ℤ
-rounded_to none s v = v
-rounded_to (some b) zero v = v
-rounded_to (some b) (suc s) v = rounded b v (suc s)
+rounded_to None s v = v
+rounded_to (Some b) zero v = v
+rounded_to (Some b) (suc s) v = rounded b v (suc s)
 
 -- the rounded value lies within the bounds
 abbrev pub holds_whole : Range ℤ → ℤ → Bool

@@ -1,6 +1,5 @@
 -- Paper 01, "Payloads of properties", with paper 02, K7: formats of integers and floats, and the payloads that they let pass.
-use Rattle.std.specs.Prelude.{ℕ, List, [], ◌∷◌, Bool, true, false, ◌&&◌, ◌||◌, cond, ltb, length, get_or, ℤ, pos}
-use Rattle.std.proofs.Math.Option.{Option, none, some, map}
+use Rattle.std.specs.Prelude.{ℕ, List, [], ◌∷◌, Bool, true, false, ◌&&◌, ◌||◌, cond, ltb, length, get_or, ℤ, pos, Option, None, Some, option_map}
 use Rattle.std.specs.Int.Signed.{le_z}
 use Rattle.abnf.specs.Abnf.{Abnf, ◌·◌, x, opt}
 use Rattle.abnf.specs.Accepts.{is_empty, accepts}
@@ -32,8 +31,8 @@ numbers_of read fs = record { min = read (get_or fs 0 []); max = read (get_or fs
 
 -- "each number of the property's own type": a field is left out, or is read as one
 abbrev pub is_some : {N : Type 0} → Option N → Bool
-is_some none = false
-is_some (some n) = true
+is_some None = false
+is_some (Some n) = true
 
 unfoldable pub each_read : {N : Type 0} → (List ℕ → Option N) → List (List ℕ) → Bool
 each_read read [] = true
@@ -41,8 +40,8 @@ each_read read (f ∷ fs) = (is_empty f || is_some (read f)) && each_read read f
 
 -- "min not above max, step above 0", of those that are there
 abbrev pub if_there : {N : Type 0} → Option N → (N → Bool) → Bool
-if_there none rule = true
-if_there (some n) rule = rule n
+if_there None rule = true
+if_there (Some n) rule = rule n
 
 abbrev pub valid : {N : Type 0} → (N → N → Bool) → (N → Bool) → Range N → Bool
 valid le above r = if_there r.min (λ min. if_there r.max (λ max. le min max)) && if_there r.step above
@@ -52,7 +51,7 @@ unfoldable pub range_of : {N : Type 0} → Abnf ⊥ → (List ℕ → Option N) 
 unfolding accepts split each_read
 range_of number read le above s =
     cond (accepts (range-text number) s && (each_read read (fields_of s) && valid le above (numbers_of read (fields_of s))))
-    (some (numbers_of read (fields_of s))) none
+    (Some (numbers_of read (fields_of s))) None
 
 abbrev pub positive : ℤ → Bool
 positive z = le_z (pos 1) z
@@ -76,30 +75,30 @@ has_step s = ltb 2 (length (fields_of s))
 unfoldable pub float_range : List ℕ → Option FloatBounds
 unfolding range_of decimal billionths
 float_range s =
-    cond (has_step s) (map stepped (range_of fixed-text billionths le_z positive s))
-    (map exactly (range_of float-text decimal le_decimal (λ step. true) s))
+    cond (has_step s) (option_map stepped (range_of fixed-text billionths le_z positive s))
+    (option_map exactly (range_of float-text decimal le_decimal (λ step. true) s))
 
 -- "Integer with step s: ..": the rule of crate numbers, where 0 is no step
 abbrev pub step_of : Option ℤ → ℕ
-step_of none = 0
-step_of (some z) = above_zero z
+step_of None = 0
+step_of (Some z) = above_zero z
 
 abbrev pub whole_in_range : Option (Range ℤ) → Option ℤ → Bool
-whole_in_range none v = false
-whole_in_range (some r) none = false
-whole_in_range (some r) (some v) = in_range r.min r.max (step_of r.step) v
+whole_in_range None v = false
+whole_in_range (Some r) None = false
+whole_in_range (Some r) (Some v) = in_range r.min r.max (step_of r.step) v
 
 -- "Floats are held against min and max unrounded."
 abbrev pub decimal_in_range : Option (Range Scientific) → Option Scientific → Bool
-decimal_in_range none v = false
-decimal_in_range (some r) none = false
-decimal_in_range (some r) (some v) = decimal_in_bounds r.min r.max v
+decimal_in_range None v = false
+decimal_in_range (Some r) None = false
+decimal_in_range (Some r) (Some v) = decimal_in_bounds r.min r.max v
 
 -- With a step K7: "Apply the integer rounding rule to floats, exactly, ties upward", "and the same holds for payloads of such a property"
 abbrev pub float_in_range : Option FloatBounds → List ℕ → Bool
-float_in_range none s = false
-float_in_range (some (exactly r)) s = decimal_in_range (some r) (decimal s)
-float_in_range (some (stepped r)) s = whole_in_range (some r) (billionths s)
+float_in_range None s = false
+float_in_range (Some (exactly r)) s = decimal_in_range (Some r) (decimal s)
+float_in_range (Some (stepped r)) s = whole_in_range (Some r) (billionths s)
 
 -- an integer or a float of a format
 unfoldable pub is_integer : List ℕ → List ℕ → Bool
@@ -113,4 +112,4 @@ is_float format s = float_in_range (float_range format) s
 -- for "color: .. three of 0 to 255 .. ends included": a float from 0 to a whole number
 unfoldable pub is_float_up_to : ℕ → List ℕ → Bool
 unfolding decimal decimal_in_bounds
-is_float_up_to most s = elim (decimal s) [ none ↦ false | some v ↦ decimal_in_bounds (some (of_whole 0)) (some (of_whole most)) v ]
+is_float_up_to most s = elim (decimal s) [ None ↦ false | Some v ↦ decimal_in_bounds (Some (of_whole 0)) (Some (of_whole most)) v ]

@@ -1,315 +1,174 @@
 // Formats `[min]:[max][:step]` of integers and floats, and the payloads that they let pass.
 #![tactic(auto)]
 
-ghost use Rattle.std.specs.Prelude.{◌≡◌, ◌^◌};
-ghost use Rattle.std.proofs.Math.Option.{some, map};
+ghost use Rattle.std.specs.Prelude.{◌≡◌, option_map};
 ghost use Rattle.std.specs.Int.Signed.{le_z};
 ghost use Rattle.numbers.specs.Integer.{integer, integer_read};
-ghost use Rattle.numbers.specs.Decimal.{decimal};
-ghost use Rattle.numbers.specs.Ratio.{decimal_limit};
-ghost use Rattle.numbers.specs.Billionths.{billionths};
-ghost use Rattle.numbers.specs.Step.{limit};
-ghost use Rattle.ranges.specs.Ranges.{positive, le_decimal, integer_range, float_range, whole_in_range, decimal_in_range, is_integer, is_float, is_float_up_to};
-ghost use Rattle.ranges.specs.Answers.{step_read, whole_range, whole_range_of, exact_range, float_range_of};
-ghost use Rattle.ranges.specs.Parts.{two, three, fields, CutAt, whole_limit_of, float_limit_of, bound, ordered, within, keep, with_step, float_fields};
+ghost use Rattle.numbers.specs.Decimal.{decimal, exact};
+ghost use Rattle.ranges.specs.Ranges.{positive, le_decimal, exactly, integer_range, float_range, whole_in_range, decimal_in_range, is_integer, is_float, is_float_up_to};
+ghost use Rattle.ranges.specs.Answers.{step_read, whole_bounds, whole_range_of, exact_range, float_range_of};
+ghost use Rattle.ranges.specs.Parts.{fields, shown, given, whole_limit_of, exact_limit_of, within, keep, with_step};
 
-use numbers::compare::DecimalBound;
-use numbers::decimals::DecimalRead;
-use numbers::integers::IntegerRead;
-use numbers::steps::Bound;
-use text::Part;
+use numbers::billionths::read_billionths;
+use numbers::compare::{decimal_in_range, decimal_le};
+use numbers::decimals::{Decimal, read_decimal, whole_decimal};
+use numbers::integers::{above_zero, read_integer};
+use numbers::steps::in_range;
+use std::num::NonZeroU64;
 
-// Where the fields end: `min` at the first place, `max` at the second.
+// What stands between the colons.
 #[derive(Clone, Copy)]
-pub enum Cuts {
-    Two(usize, usize),
-    Three(usize, usize),
-    Other,
+struct Fields<'a> {
+    min: &'a [u8],
+    max: &'a [u8],
+    step: Option<&'a [u8]>,
 }
 
 // Whole numbers: integers, or floats in billionths.
 #[derive(Clone, Copy)]
-pub enum WholeLimit {
-    Limit(Bound),
-    Bad,
-}
-
-#[derive(Clone, Copy)]
-pub enum FloatLimit {
-    Limit(DecimalBound),
-    Bad,
-}
-
-// A step of 0 is none.
-#[derive(Clone, Copy)]
-pub enum WholeRange {
-    Is { min: Bound, max: Bound, step: u64 },
-    Bad,
+pub struct WholeRange {
+    pub min: Option<u64>,
+    pub max: Option<u64>,
+    pub step: Option<NonZeroU64>,
 }
 
 // Exact decimals, or with a step whole billionths.
 #[derive(Clone, Copy)]
 pub enum FloatRange {
     Exact {
-        min: DecimalBound,
-        max: DecimalBound,
+        min: Option<Decimal>,
+        max: Option<Decimal>,
     },
-    Stepped {
-        min: Bound,
-        max: Bound,
-        step: u64,
-    },
-    Bad,
+    Stepped(WholeRange),
 }
 
-fn cut_fields(s: &[u8]) -> Cuts
-    ensures { CutAt s.now (fields s.now) result }
+fn cut_fields(s: &[u8]) -> Option<Fields<'_>>
+    ensures { shown result ≡ fields s.now }
 {
-    let Part::Found {
-        start: _,
-        end: a,
-        next: m,
-    } = text::next_part(s, 0, b':')
-    else {
-        return Cuts::Other;
+    let first = text::next_part(s, 0, b':')?;
+    let second = text::next_part(s, first.next, b':')?;
+    let min = &s[..first.end];
+    let max = &s[first.next..second.end];
+    let Some(third) = text::next_part(s, second.next, b':') else {
+        return Some(Fields {
+            min,
+            max,
+            step: None,
+        });
     };
-    let Part::Found {
-        start: _,
-        end: b,
-        next: n,
-    } = text::next_part(s, m, b':')
-    else {
-        return Cuts::Other;
-    };
-    let Part::Found {
-        start: _,
-        end: _,
-        next: o,
-    } = text::next_part(s, n, b':')
-    else {
-        return Cuts::Two(a, b);
-    };
-    if o <= s.len() {
-        return Cuts::Other;
+    if third.next <= s.len() {
+        return None;
     }
-    Cuts::Three(a, b)
+    Some(Fields {
+        min,
+        max,
+        step: Some(&s[second.next..]),
+    })
 }
 
-// A bound that was read.
-fn whole_limit(read: IntegerRead) -> WholeLimit
-    ensures { whole_limit_of result ≡ map some (integer_read read) }
+// A bound, which may be left out: `read` is what its text writes.
+fn bound<T: Copy>(s: &[u8], read: Option<T>) -> Option<Option<T>>
+    ensures { result ≡ given s.now read }
 {
-    match read {
-        IntegerRead::Value(n) => WholeLimit::Limit(Bound::At(n)),
-        IntegerRead::Nothing => WholeLimit::Bad,
+    if s.is_empty() {
+        return Some(None);
     }
+    Some(Some(read?))
 }
 
-// A bound of integers, which may be left out.
-fn integer_limit(s: &[u8]) -> WholeLimit
-    ensures { whole_limit_of result ≡ bound integer s.now }
-{
-    if s.len() == 0 {
-        return WholeLimit::Limit(Bound::Open);
-    }
-    whole_limit(numbers::integers::read_integer(s))
-}
-
-// A bound of billionths, which may be left out.
-fn billionths_limit(s: &[u8]) -> WholeLimit
-    ensures { whole_limit_of result ≡ bound billionths s.now }
-{
-    if s.len() == 0 {
-        return WholeLimit::Limit(Bound::Open);
-    }
-    whole_limit(numbers::billionths::read_billionths(s))
-}
-
-fn whole_ordered(min: Bound, max: Bound) -> bool
-    ensures { result ≡ ordered le_z (limit (2 ^ 63) min) (limit (2 ^ 63) max) }
-{
-    match min {
-        Bound::At(a) => match max {
-            Bound::At(b) => a <= b,
-            Bound::Open => true,
-        },
-        Bound::Open => true,
-    }
-}
-
-fn whole_within(min: WholeLimit, max: WholeLimit, step: u64) -> WholeRange
+fn whole_within(
+    min: Option<Option<u64>>,
+    max: Option<Option<u64>>,
+    step: Option<NonZeroU64>,
+) -> Option<WholeRange>
     ensures { whole_range_of result ≡ within le_z (whole_limit_of min) (whole_limit_of max) (step_read step) }
 {
-    let WholeLimit::Limit(a) = min else {
-        return WholeRange::Bad;
-    };
-    let WholeLimit::Limit(b) = max else {
-        return WholeRange::Bad;
-    };
-    if whole_ordered(a, b) {
-        WholeRange::Is {
-            min: a,
-            max: b,
-            step: step,
-        }
-    } else {
-        WholeRange::Bad
-    }
-}
-
-// The step that was read; 0 where it is none above 0.
-fn whole_step(step: IntegerRead) -> u64
-    ensures { step_read result ≡ keep positive (integer_read step) }
-{
-    match step {
-        IntegerRead::Value(n) => numbers::integers::above_zero(n),
-        IntegerRead::Nothing => 0,
+    let min = min?;
+    let max = max?;
+    match (min, max) {
+        (Some(a), Some(b)) if b < a => None,
+        _ => Some(WholeRange { min, max, step }),
     }
 }
 
 // The range with a step.
-fn whole_stepped(min: WholeLimit, max: WholeLimit, step: IntegerRead) -> WholeRange
+fn whole_stepped(
+    min: Option<Option<u64>>,
+    max: Option<Option<u64>>,
+    step: Option<u64>,
+) -> Option<WholeRange>
     ensures { whole_range_of result ≡ with_step le_z (whole_limit_of min) (whole_limit_of max) (keep positive (integer_read step)) }
 {
-    let n = whole_step(step);
-    if n == 0 {
-        return WholeRange::Bad;
-    }
-    whole_within(min, max, n)
+    let n = above_zero(step?)?;
+    whole_within(min, max, Some(n))
 }
 
 // The whole number that was read, rounded to the step, is within the bounds.
-fn is_whole(read: IntegerRead, min: Bound, max: Bound, step: u64) -> bool
-    ensures { result ≡ whole_in_range (some (whole_range min max step)) (integer_read read) }
+fn is_whole(read: Option<u64>, r: WholeRange) -> bool
+    ensures { result ≡ whole_in_range (Some (whole_bounds r)) (integer_read read) }
 {
-    let IntegerRead::Value(v) = read else {
-        return false;
-    };
-    numbers::steps::in_range(v, min, max, step)
+    read.is_some_and(|v| in_range(v, r.min, r.max, r.step))
 }
 
 // The range of an integer's format.
-pub fn integer_range(s: &[u8]) -> WholeRange
+pub fn integer_range(s: &[u8]) -> Option<WholeRange>
     ensures { whole_range_of result ≡ integer_range s.now }
 {
-    match cut_fields(s) {
-        Cuts::Two(a, b) => {
-            let m = a + 1;
-            let min = integer_limit(&s[0..a]);
-            let max = integer_limit(&s[m..b]);
-            whole_within(min, max, 0)
-        }
-        Cuts::Three(a, b) => {
-            let m = a + 1;
-            let n = b + 1;
-            let min = integer_limit(&s[0..a]);
-            let max = integer_limit(&s[m..b]);
-            let step = numbers::integers::read_integer(&s[n..]);
-            whole_stepped(min, max, step)
-        }
-        Cuts::Other => WholeRange::Bad,
+    let f = cut_fields(s)?;
+    let min = bound(f.min, read_integer(f.min));
+    let max = bound(f.max, read_integer(f.max));
+    match f.step {
+        Some(step) => whole_stepped(min, max, read_integer(step)),
+        None => whole_within(min, max, None),
     }
 }
 
 // An integer that a format lets pass, rounded to its step.
+#[tactic(auto, unfolding(crate::specs::Ranges::is_integer))]
 pub fn is_integer(format: &[u8], s: &[u8]) -> bool
     ensures { result ≡ is_integer format.now s.now }
 {
-    let WholeRange::Is { min, max, step } = integer_range(format) else {
-        return false;
-    };
-    let v = numbers::integers::read_integer(s);
-    is_whole(v, min, max, step)
+    integer_range(format).is_some_and(|r| is_whole(read_integer(s), r))
 }
 
-fn float_limit(s: &[u8]) -> FloatLimit
-    ensures { float_limit_of result ≡ bound decimal s.now }
+fn read_exact(s: &[u8]) -> Option<Decimal>
+    ensures { option_map exact result ≡ decimal s.now }
 {
-    if s.len() == 0 {
-        return FloatLimit::Limit(DecimalBound::Open);
-    }
-    match numbers::decimals::read_decimal(s) {
-        DecimalRead::Exact { value: d, fixed: _ } => FloatLimit::Limit(DecimalBound::At(d)),
-        DecimalRead::Nothing => FloatLimit::Bad,
-    }
+    Some(read_decimal(s)?.value)
 }
 
-fn float_ordered(min: DecimalBound, max: DecimalBound) -> bool
-    ensures { result ≡ ordered le_decimal (decimal_limit min) (decimal_limit max) }
+fn float_within(min: Option<Option<Decimal>>, max: Option<Option<Decimal>>) -> Option<FloatRange>
+    ensures { float_range_of result ≡ option_map exactly (within le_decimal (exact_limit_of min) (exact_limit_of max) None) }
 {
-    match min {
-        DecimalBound::At(a) => match max {
-            DecimalBound::At(b) => numbers::compare::decimal_le(a, b),
-            DecimalBound::Open => true,
-        },
-        DecimalBound::Open => true,
-    }
-}
-
-// The range of a format without a step.
-fn float_within(min: &[u8], max: &[u8]) -> FloatRange
-    ensures { float_range_of result ≡ float_fields (two min.now max.now) }
-{
-    let FloatLimit::Limit(a) = float_limit(min) else {
-        return FloatRange::Bad;
-    };
-    let FloatLimit::Limit(b) = float_limit(max) else {
-        return FloatRange::Bad;
-    };
-    if float_ordered(a, b) {
-        FloatRange::Exact { min: a, max: b }
-    } else {
-        FloatRange::Bad
-    }
-}
-
-// The range of a format with a step.
-fn float_stepped(min: &[u8], max: &[u8], step: &[u8]) -> FloatRange
-    ensures { float_range_of result ≡ float_fields (three min.now max.now step.now) }
-{
-    let a = billionths_limit(min);
-    let b = billionths_limit(max);
-    let n = numbers::billionths::read_billionths(step);
-    match whole_stepped(a, b, n) {
-        WholeRange::Is {
-            min: low,
-            max: high,
-            step: size,
-        } => FloatRange::Stepped {
-            min: low,
-            max: high,
-            step: size,
-        },
-        WholeRange::Bad => FloatRange::Bad,
+    let min = min?;
+    let max = max?;
+    match (min, max) {
+        (Some(a), Some(b)) if !decimal_le(a, b) => None,
+        _ => Some(FloatRange::Exact { min, max }),
     }
 }
 
 // The range of a float's format.
-pub fn float_range(s: &[u8]) -> FloatRange
+pub fn float_range(s: &[u8]) -> Option<FloatRange>
     ensures { float_range_of result ≡ float_range s.now }
 {
-    match cut_fields(s) {
-        Cuts::Two(a, b) => {
-            let m = a + 1;
-            float_within(&s[0..a], &s[m..b])
-        }
-        Cuts::Three(a, b) => {
-            let m = a + 1;
-            let n = b + 1;
-            float_stepped(&s[0..a], &s[m..b], &s[n..])
-        }
-        Cuts::Other => FloatRange::Bad,
-    }
+    let f = cut_fields(s)?;
+    let Some(step) = f.step else {
+        let min = bound(f.min, read_exact(f.min));
+        let max = bound(f.max, read_exact(f.max));
+        return float_within(min, max);
+    };
+    let min = bound(f.min, read_billionths(f.min));
+    let max = bound(f.max, read_billionths(f.max));
+    let range = whole_stepped(min, max, read_billionths(step))?;
+    Some(FloatRange::Stepped(range))
 }
 
 // A decimal is within the bounds, unrounded.
-fn is_decimal(s: &[u8], min: DecimalBound, max: DecimalBound) -> bool
-    ensures { result ≡ decimal_in_range (some (exact_range min max)) (decimal s.now) }
+fn is_decimal(s: &[u8], min: Option<Decimal>, max: Option<Decimal>) -> bool
+    ensures { result ≡ decimal_in_range (Some (exact_range min max)) (decimal s.now) }
 {
-    let DecimalRead::Exact { value: v, fixed: _ } = numbers::decimals::read_decimal(s) else {
-        return false;
-    };
-    numbers::compare::decimal_in_range(v, min, max)
+    read_exact(s).is_some_and(|d| decimal_in_range(d, min, max))
 }
 
 // A float that a format lets pass: rounded to its step, or as it is where there is none.
@@ -317,12 +176,9 @@ pub fn is_float(format: &[u8], s: &[u8]) -> bool
     ensures { result ≡ is_float format.now s.now }
 {
     match float_range(format) {
-        FloatRange::Exact { min, max } => is_decimal(s, min, max),
-        FloatRange::Stepped { min, max, step } => {
-            let v = numbers::billionths::read_billionths(s);
-            is_whole(v, min, max, step)
-        }
-        FloatRange::Bad => false,
+        Some(FloatRange::Exact { min, max }) => is_decimal(s, min, max),
+        Some(FloatRange::Stepped(r)) => is_whole(read_billionths(s), r),
+        None => false,
     }
 }
 
@@ -330,10 +186,5 @@ pub fn is_float(format: &[u8], s: &[u8]) -> bool
 pub fn is_up_to(s: &[u8], most: u64) -> bool
     ensures { result ≡ is_float_up_to most s.now }
 {
-    let DecimalRead::Exact { value: v, fixed: _ } = numbers::decimals::read_decimal(s) else {
-        return false;
-    };
-    let low = numbers::decimals::whole_decimal(0);
-    let high = numbers::decimals::whole_decimal(most);
-    numbers::compare::decimal_in_range(v, DecimalBound::At(low), DecimalBound::At(high))
+    is_decimal(s, Some(whole_decimal(0)), Some(whole_decimal(most)))
 }

@@ -1,13 +1,12 @@
 // Lines of the report, each printed as it is made.
-use questions::{Held, Id, Number, Property, States};
+// Kept by hand: each is put together in fixed memory and is one write; `writeln!` makes a write of each of its pieces, or needs a buffer on the heap.
+use answer::Refused;
+use device::Lane;
 use rules::LaneKind;
 use std::io;
 use std::io::Write;
-use table::{Offer, Outcome};
+use table::Error;
 use text::Place;
-
-// As an index.
-const PROPERTIES_MOST: usize = device::PROPERTIES_MOST as usize;
 
 // Ends the line at a place, and prints it.
 fn finish(to: &mut impl Write, out: &mut [u8], at: usize) -> io::Result<()> {
@@ -35,15 +34,20 @@ pub(crate) fn events(to: &mut impl Write, n: usize) -> io::Result<()> {
 }
 
 // The answer to a message, 0 where it is taken.
-fn answer(o: Outcome) -> u64 {
+fn answer(o: Result<(), Error>) -> u64 {
     match o {
-        Outcome::Taken => 0,
-        Outcome::Refused(n) => n as u64,
-        Outcome::Faulty(n, _) => n as u64,
+        Ok(()) => 0,
+        Err(Error::Refused(r)) => u64::from(r.number()),
+        Err(Error::Faulty(fault)) => u64::from(fault.kind.number()),
     }
 }
 
-pub(crate) fn event(to: &mut impl Write, i: usize, time: u64, o: Outcome) -> io::Result<()> {
+pub(crate) fn event(
+    to: &mut impl Write,
+    i: usize,
+    time: u64,
+    o: Result<(), Error>,
+) -> io::Result<()> {
     let mut out = [0u8; 64];
     let first = lines::number::write(&mut out, 0, i as u64);
     let second = lines::out::put(&mut out, first, b" ");
@@ -54,12 +58,11 @@ pub(crate) fn event(to: &mut impl Write, i: usize, time: u64, o: Outcome) -> io:
 }
 
 // A space, then what a lane holds in hex, or `-`.
-fn lane(out: &mut [u8], at: usize, mem: &[u8], held: Held) -> usize {
+fn lane(out: &mut [u8], at: usize, mem: &[u8], held: Result<Option<Lane>, Refused>) -> usize {
     let next = lines::out::put(out, at, b" ");
     match held {
-        Held::Refused(_) => lines::out::put(out, next, b"-"),
-        Held::Empty => lines::out::put(out, next, b"-"),
-        Held::Holds { time: _, payload } => words::hex(out, next, mem, payload),
+        Ok(Some(lane)) => words::hex(out, next, mem, lane.payload),
+        _ => lines::out::put(out, next, b"-"),
     }
 }
 
@@ -93,69 +96,52 @@ fn property(to: &mut impl Write, mem: &[u8], id: &[u8], n: Place, p: Place) -> i
 }
 
 fn properties(to: &mut impl Write, mem: &[u8], id: &[u8]) -> io::Result<()> {
-    for i in 0..PROPERTIES_MOST {
-        match questions::property_of(mem, id, i) {
-            Property::Refused(_) => return Ok(()),
-            Property::Is {
-                node,
-                id: p,
-                datatype: _,
-                format: _,
-                settable: _,
-                retained: _,
-            } => property(to, mem, id, node, p)?,
-        }
+    for i in 0..usize::from(device::PROPERTIES_MOST) {
+        let Ok(p) = questions::property_of(mem, id, i) else {
+            return Ok(());
+        };
+        property(to, mem, id, p.node, p.id)?;
     }
     Ok(())
 }
 
 fn states(to: &mut impl Write, mem: &[u8], id: &[u8]) -> io::Result<()> {
-    match questions::states_of(mem, id) {
-        States::Refused(_) => Ok(()),
-        States::Are {
-            own,
-            effective,
-            time: _,
-        } => {
-            let mut out = [0u8; 128];
-            let first = lines::out::put(&mut out, 0, b"device ");
-            let second = lines::out::put(&mut out, first, id);
-            let third = lines::out::put(&mut out, second, b" ");
-            let fourth = words::state(&mut out, third, own);
-            let fifth = lines::out::put(&mut out, fourth, b" ");
-            let end = words::state(&mut out, fifth, effective);
-            finish(to, &mut out, end)
-        }
-    }
+    let Ok(s) = questions::states_of(mem, id) else {
+        return Ok(());
+    };
+    let mut out = [0u8; 128];
+    let first = lines::out::put(&mut out, 0, b"device ");
+    let second = lines::out::put(&mut out, first, id);
+    let third = lines::out::put(&mut out, second, b" ");
+    let fourth = words::state(&mut out, third, s.own);
+    let fifth = lines::out::put(&mut out, fourth, b" ");
+    let end = words::state(&mut out, fifth, s.effective);
+    finish(to, &mut out, end)
 }
 
 fn device(to: &mut impl Write, mem: &[u8], i: usize) -> io::Result<()> {
-    match questions::nth(mem, i) {
-        Id::Refused(_) => Ok(()),
-        Id::At { place } => {
-            let id = bytes(mem, place);
-            states(to, mem, id)?;
-            properties(to, mem, id)
-        }
-    }
+    let Ok(place) = questions::nth(mem, i) else {
+        return Ok(());
+    };
+    let id = bytes(mem, place);
+    states(to, mem, id)?;
+    properties(to, mem, id)
 }
 
 // Each device, and its properties after it.
 pub(crate) fn devices(to: &mut impl Write, mem: &[u8]) -> io::Result<()> {
-    match questions::count(mem) {
-        Number::Refused(_) => Ok(()),
-        Number::Is(n) => {
-            for i in 0..n {
-                device(to, mem, i as usize)?;
-            }
-            Ok(())
-        }
+    let Ok(n) = questions::count(mem) else {
+        return Ok(());
+    };
+    for i in 0..n {
+        device(to, mem, i as usize)?;
     }
+    Ok(())
 }
 
 pub(crate) fn steps(to: &mut impl Write, mem: &[u8]) -> io::Result<()> {
     match table::steps(mem) {
-        Offer::Refused(_) => Ok(()),
-        Offer::Steps(n) => number(to, b"steps ", n as u64),
+        Ok(n) => number(to, b"steps ", u64::from(n)),
+        Err(_) => Ok(()),
     }
 }

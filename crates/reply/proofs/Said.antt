@@ -1,18 +1,16 @@
 -- What each way through the code shows of a string.
+use Rattle.std.specs.Prelude.{Err, Ok, Result}
+use Rattle.std.specs.Result.{result_unwrap_or}
 use Prim.Native.Nat.{ℕ, suc, ◌+◌, ◌≤◌, ◌<◌, min}
 use native.Mathlib.Nat.{mod-eq_of_lt}
 use native.Mathlib.Omega.{arith}
-use mathlib.Core.Path.{◌≡◌, sym, ap, ◌∙◌, subst}
+use mathlib.Core.Path.{◌≡◌, refl, sym, ap, ◌∙◌, subst}
 use mathlib.Core.List.{List, [], ◌∷◌}
 use lib.ListN.{length}
 use borrow.Author.Tests.{le-leb, lt-leb}
 use Rattle.answer.specs.Answer.{Answer, refused, gives, placed}
 use Rattle.json_text.specs.Strings.{string_at}
-use Rattle.json_text.specs.declared.Scan.{Scan}
-use Rattle.json_text.specs.declared.Scan.TheVariants.{End, Bad}
 use Rattle.escapes.specs.Decode.{half, filled}
-use Rattle.escapes.specs.declared.Decoding.{Decoding}
-use Rattle.escapes.specs.declared.Decoding.TheVariants.{Whole, Half}
 use Rattle.escapes.proofs.Buffers.{filled_none}
 use Rattle.fields.specs.Values.{decoded_at, string_bytes, decoding_at, DecodesAt}
 use Rattle.fields.proofs.Decoded.{decoded-whole, decoded-length, broken_at, broken-bytes, half-inside}
@@ -45,28 +43,28 @@ module _ (s : List ℕ) (k : ℕ) where
   unfolding string_in
   too_long {n} {out} {buffer} h c = string-refused (string_in s k) n 21 8192 out buffer (rw (lt-leb (length s) 8192 h, string_in)) (code_is n 21 8192 (omega arith) c)
 
-  module _ {r : Scan} (h : length s ≤ 8192) (x : r ≡ string_at s k) where
-    found : {z : Scan} → r ≡ z → string_in s k ≡ string_from s k z
+  module _ {r : Result ℕ ℕ} (h : length s ≤ 8192) (x : r ≡ string_at s k) where
+    found : {z : Result ℕ ℕ} → r ≡ z → string_in s k ≡ string_from s k z
     unfolding string_in
     found {z} e = rw (le-leb (length s) 8192 h, string_in) (ap (string_from s k) (sym x ∙ e))
 
-    pub no-string : {e n m : ℕ} {out buffer : List ℕ} → r ≡ Bad e → m ≡ min k (length s) → n ≡ refusal_code (placed 22 (fit_place m)) → StringTold (string_in s k) out buffer n out buffer
+    pub no-string : {e n m : ℕ} {out buffer : List ℕ} → r ≡ Err e → m ≡ min k (length s) → n ≡ refusal_code (placed 22 (fit_place m)) → StringTold (string_in s k) out buffer n out buffer
     unfolding string_from
     no-string {e} {n} {m} {out} {buffer} q y c =
         string-refused (string_in s k) n 22 (min k (length s)) out buffer (found q) (code_is n 22 m (omega arith) c ∙ ap (λ (i : ℕ). refusal_code (placed 22 i)) y)
 
-    pub a-string : {e n : ℕ} {out buffer out' buffer' : List ℕ} → r ≡ End e → StringTold (said_at k (decoded_at s k)) out buffer n out' buffer' → StringTold (string_in s k) out buffer n out' buffer'
+    pub a-string : {e n : ℕ} {out buffer out' buffer' : List ℕ} → r ≡ Ok e → StringTold (said_at k (decoded_at s k)) out buffer n out' buffer' → StringTold (string_in s k) out buffer n out' buffer'
     unfolding string_from
     a-string q w = string_as (found q) w
 
   -- ---- by what is decoded
 
-  module _ {buffer buffer' : List ℕ} {r : Decoding} (w : DecodesAt s k buffer buffer' r) where
-    half_at : {p i : ℕ} → r ≡ Half p → decoded_at s k ≡ half i → p ≡ suc k + i
+  module _ {buffer buffer' : List ℕ} {r : Result ℕ ℕ} (w : DecodesAt s k buffer buffer' r) where
+    half_at : {p i : ℕ} → r ≡ Err p → decoded_at s k ≡ half i → p ≡ suc k + i
     unfolding decoding_at
-    half_at {p} {i} q e = let z : Half p ≡ Half (suc k + i) = sym q ∙ (w.answer ∙ ap (decoding_at k) e) in cc
+    half_at {p} {i} q e = let z : Err p ≡ Err (suc k + i) = sym q ∙ (w.answer ∙ ap (decoding_at k) e) in cc
 
-    pub said-half : {p n : ℕ} {out : List ℕ} → r ≡ Half p → length s ≤ 8192 → n ≡ refusal_code (placed 25 (fit_place p)) → StringTold (said_at k (decoded_at s k)) out buffer n out buffer'
+    pub said-half : {p n : ℕ} {out : List ℕ} → r ≡ Err p → length s ≤ 8192 → n ≡ refusal_code (placed 25 (fit_place p)) → StringTold (said_at k (decoded_at s k)) out buffer n out buffer'
     unfolding said_at
     said-half {p} {n} {out} q h c =
         let b = broken_at s k w q in
@@ -77,12 +75,16 @@ module _ (s : List ℕ) (k : ℕ) where
         let told = string-refused (said_at k (decoded_at s k)) n 25 p out buffer x (code_is n 25 p (omega (arith, place, inside)) c) in
         record { reply = told.reply; lent = same ∙ told.lent }
 
-    pub said-whole : {n c : ℕ} {out out' : List ℕ} → r ≡ Whole n → Replied (says (n ∷ [])) out c out' → StringTold (said_at k (decoded_at s k)) out buffer c out' buffer'
+    pub said-whole : {n c : ℕ} {out out' : List ℕ} → r ≡ Ok n → Replied (says (n ∷ [])) out c out' → StringTold (said_at k (decoded_at s k)) out buffer c out' buffer'
     unfolding said_at show_string copied
     said-whole {n} {c} {out} {out'} q y =
         let e : said_at k (decoded_at s k) ≡ gives (string_bytes s k) = ap (said_at k) (decoded-whole s k w q) in
         string_as e (record { reply = reply_as _ _ _ _ _ (ap (λ (i : ℕ). says (i ∷ [])) (sym (decoded-length s k w q))) y; lent = w.buffer })
 
-    -- the length alone
-    pub half_length : {p : ℕ} → r ≡ Half p → 0 ≡ length (string_bytes s k)
-    half_length q = sym (ap length (broken-bytes s k w q))
+    -- the length alone, 0 where there is none
+    pub length_or_none : result_unwrap_or r 0 ≡ length (string_bytes s k)
+    length_or_none = by_answer r refl
+      where
+        by_answer : (a : Result ℕ ℕ) → r ≡ a → result_unwrap_or a 0 ≡ length (string_bytes s k)
+        by_answer (Ok n) q = decoded-length s k w q
+        by_answer (Err p) q = sym (ap length (broken-bytes s k w q))

@@ -1,9 +1,7 @@
 -- A string of a description's text, decoded (paper 02, K4): what is shown of it, and what a lent buffer is then.
-use Rattle.std.specs.Prelude.{ℕ, suc, ◌+◌, min, ◌≡◌, List, [], ◌∷◌, true, false, length, leb}
+use Rattle.std.specs.Prelude.{ℕ, suc, ◌+◌, min, ◌≡◌, List, [], ◌∷◌, true, false, length, leb, Err, Ok, Result}
 use Rattle.answer.specs.Answer.{Answer, refused, gives, placed}
 use Rattle.json_text.specs.Strings.{string_at}
-use Rattle.json_text.specs.declared.Scan.{Scan}
-use Rattle.json_text.specs.declared.Scan.TheVariants.{End, Bad}
 use Rattle.escapes.specs.Decode.{Decoded, whole, half, filled}
 use Rattle.fields.specs.Values.{decoded_at}
 use Rattle.reply.specs.Reply.{Reply, says, refuses, refusal_code, Replied}
@@ -14,9 +12,9 @@ said_at k (whole t) = gives t
 said_at k (half p) = refused (placed 25 (suc k + p))
 
 -- 22, "wrong JSON kind", where no string begins at k and ends: told at k, or at the text's end where k is past it
-unfoldable pub string_from : List ℕ → ℕ → Scan → Answer (List ℕ)
-string_from s k (End e) = said_at k (decoded_at s k)
-string_from s k (Bad e) = refused (placed 22 (min k (length s)))
+unfoldable pub string_from : List ℕ → ℕ → Result ℕ ℕ → Answer (List ℕ)
+string_from s k (Ok e) = said_at k (decoded_at s k)
+string_from s k (Err e) = refused (placed 22 (min k (length s)))
 
 -- the bytes of the string whose opening quote stands at k; 21 at 8,192 for a text that is longer
 unfoldable pub string_in : List ℕ → ℕ → Answer (List ℕ)

@@ -6,36 +6,28 @@ ghost use Rattle.reply.specs.Descriptions.{presence, place, is_given, kept_numbe
 
 use crate::{refusal_code, tell, twos_complement};
 use description::Description;
-use escapes::Decoding;
-use faults::Told;
-use fields::Field;
 use payload::Format;
 use properties::{Entries, Entry};
 
-fn presence_of(f: Field) -> u64
+#[tactic(auto, unfolding(crate::specs::Descriptions::presence))]
+fn presence_of(f: Option<usize>) -> u64
     ensures { result ≡ presence f }
 {
-    match f {
-        Field::Absent => 0,
-        Field::First(_) => 1,
-    }
+    u64::from(f.is_some())
 }
 
-fn place_of(f: Field) -> u64
+#[tactic(auto, unfolding(crate::specs::Descriptions::place))]
+fn place_of(f: Option<usize>) -> u64
     ensures { result ≡ place f }
 {
-    match f {
-        Field::Absent => 0,
-        Field::First(k) => k as u64,
-    }
+    f.unwrap_or(0) as u64
 }
 
 pub fn tell_description(out: &mut [u64], d: Description) -> u32
     ensures { Replied (show_description (fit_description d)) out.old result out.new }
 {
-    let told = d.told;
-    if let Told::At(place, number) = told {
-        return refusal_code(number, place);
+    if let Some(fault) = d.told {
+        return refusal_code(fault.kind.number(), fault.place);
     }
     let root = d.root;
     let parent = d.parent;
@@ -57,53 +49,37 @@ fn string_length(s: &[u8], k: usize) -> usize
     ensures { result ≡ length (string_bytes s.now k) }
 {
     let mut none = [0u8; 1];
-    match fields::decode_at(s, k, &mut none) {
-        Decoding::Half(_) => 0,
-        Decoding::Whole(n) => n,
-    }
+    fields::decode_at(s, k, &mut none).unwrap_or(0)
 }
 
 // Whether a format with bytes stands in the text.
-fn is_given(s: &[u8], f: Field) -> bool
+fn is_given(s: &[u8], f: Option<usize>) -> bool
     ensures { result ≡ is_given s.now f }
 {
     match f {
-        Field::Absent => false,
-        Field::First(k) => 0 < string_length(s, k),
+        None => false,
+        Some(k) => 0 < string_length(s, k),
     }
 }
 
-fn kept_number(f: Format, given: bool) -> u64
+#[tactic(auto, unfolding(crate::specs::Descriptions::kept_number))]
+fn kept_number(f: Option<Format>, given: bool) -> u64
     ensures { result ≡ kept_number f given }
 {
-    match f {
-        Format::Bad => 3,
-        Format::AsGiven => {
-            if given {
-                return 0;
-            }
-            3
-        }
-        Format::Colon => 1,
-        Format::FalseTrue => 2,
-        Format::NotKept => 3,
-    }
+    let shown = match f {
+        Some(Format::AsGiven) if !given => Format::NotKept,
+        _ => f.unwrap_or(Format::NotKept),
+    };
+    shown as u64
 }
 
-fn format_place(f: Format, given: bool, at: Field) -> u64
+#[tactic(auto, unfolding(crate::specs::Descriptions::format_place))]
+fn format_place(f: Option<Format>, given: bool, at: Option<usize>) -> u64
     ensures { result ≡ format_place f given at }
 {
     match f {
-        Format::Bad => 0,
-        Format::AsGiven => {
-            if given {
-                return place_of(at);
-            }
-            0
-        }
-        Format::Colon => 0,
-        Format::FalseTrue => 0,
-        Format::NotKept => 0,
+        Some(Format::AsGiven) if given => place_of(at),
+        _ => 0,
     }
 }
 
@@ -146,9 +122,8 @@ fn tell_item(out: &mut [u64], s: &[u8], l: Entries, i: usize) -> u32
 pub fn tell_declared(out: &mut [u64], s: &[u8], d: Description, i: usize) -> u32
     ensures { Replied (show_declared s.now (fit_description d) i) out.old result out.new }
 {
-    let told = d.told;
-    if let Told::At(place, k) = told {
-        return refusal_code(k, place);
+    if let Some(first) = d.told {
+        return refusal_code(first.kind.number(), first.place);
     }
     let l = d.properties;
     tell_item(out, s, l, i)

@@ -1,24 +1,17 @@
 // Trace files.
 ghost use Rattle.reply.specs.Reply.{Replied};
-ghost use Rattle.reply.specs.Files.{show_checked, show_written};
+ghost use Rattle.reply.specs.Files.{show_count};
 
 use crate::tell_value;
-use trace::{Checked, Written};
+use answer::Refused;
 
-pub fn tell_checked(out: &mut [u64], a: Checked) -> u32
-    ensures { Replied (show_checked a) out.old result out.new }
+// A count of events, or a new length.
+#[tactic(auto, using(crate::proofs::Out::nothing), unfolding(crate::specs::Files::show_count))]
+pub fn tell_count(out: &mut [u64], a: Result<usize, Refused>) -> u32
+    ensures { Replied (show_count a) out.old result out.new }
 {
     match a {
-        Checked::Refused(k) => k as u32,
-        Checked::Count(n) => tell_value(out, n as u64),
-    }
-}
-
-pub fn tell_written(out: &mut [u64], a: Written) -> u32
-    ensures { Replied (show_written a) out.old result out.new }
-{
-    match a {
-        Written::Refused(k) => k as u32,
-        Written::Length(n) => tell_value(out, n as u64),
+        Err(r) => u32::from(r.number()),
+        Ok(n) => tell_value(out, n as u64),
     }
 }

@@ -2,14 +2,16 @@
 ghost use Rattle.std.specs.Prelude.{ℕ, ◌≡◌, List, ◌∷◌, []};
 ghost use Rattle.topic.specs.Meaning.{meaning};
 ghost use Rattle.reply.specs.Reply.{Replied, says, yes};
-ghost use Rattle.reply.specs.Judgements.{show_topic, flag_number, show_flag, show_named, show_format};
+ghost use Rattle.reply.specs.Judgements.{show_form, show_topic, flag_number, show_flag, show_named, show_format};
 ghost use Rattle.reply.specs.Parts.{places1, places2, places3};
 
 use crate::{tell, tell_value};
-use payload::{Format, Named};
+use answer::Refused;
+use payload::{Datatype, Format};
 use text::Place;
 use topic::{Flag, Topic};
 
+// Kept by hand: one, two and three places; a loop that fills one array of seven values is no shorter than these arrays, which show their values.
 fn tell_one(out: &mut [u64], form: u64, a: Place) -> u32
     ensures { Replied (says (places1 form a)) out.old result out.new }
 {
@@ -45,11 +47,11 @@ fn tell_three(out: &mut [u64], form: u64, a: Place, b: Place, c: Place) -> u32
     tell(out, &vs)
 }
 
-pub fn tell_topic(out: &mut [u64], t: Topic) -> u32
-    ensures { Replied (show_topic t) out.old result out.new }
+#[tactic(auto, unfolding(crate::specs::Judgements::show_form))]
+fn tell_form(out: &mut [u64], t: Topic) -> u32
+    ensures { Replied (show_form t) out.old result out.new }
 {
     match t {
-        Topic::Refused(k) => k as u32,
         Topic::State { device: d } => tell_one(out, 0, d),
         Topic::Description { device: d } => tell_one(out, 1, d),
         Topic::Value {
@@ -81,6 +83,18 @@ pub fn tell_topic(out: &mut [u64], t: Topic) -> u32
     }
 }
 
+#[tactic(auto, using(crate::proofs::Out::nothing), unfolding(crate::specs::Judgements::show_topic))]
+pub fn tell_topic(out: &mut [u64], t: Result<Topic, Refused>) -> u32
+    ensures { Replied (show_topic t) out.old result out.new }
+{
+    match t {
+        Ok(form) => tell_form(out, form),
+        Err(r) => u32::from(r.number()),
+    }
+}
+
+// Kept by hand: the numbers of the C interface beside their cases; `as u64` would let the order of `Flag` in crate topic decide them.
+#[tactic(auto, unfolding(crate::specs::Judgements::flag_number))]
 fn flag_number(f: Flag) -> u64
     ensures { result ≡ flag_number f }
 {
@@ -93,13 +107,13 @@ fn flag_number(f: Flag) -> u64
 }
 
 // What the form of a topic asks of a message's flag.
-pub fn tell_flag(out: &mut [u64], t: Topic) -> u32
+pub fn tell_flag(out: &mut [u64], t: Result<Topic, Refused>) -> u32
     ensures { (s : List ℕ) → Replied (show_flag (meaning s t)) out.old result out.new }
 {
     let flag = flag_number(topic::flag_of(t));
     match t {
-        Topic::Refused(k) => k as u32,
-        _ => tell_value(out, flag),
+        Ok(_) => tell_value(out, flag),
+        Err(r) => u32::from(r.number()),
     }
 }
 
@@ -110,26 +124,23 @@ fn tell_yes(out: &mut [u64], code: u64) -> u32
     1
 }
 
-pub fn tell_named(out: &mut [u64], a: Named) -> u32
+#[tactic(auto, using(crate::proofs::Out::nothing), unfolding(crate::specs::Judgements::show_named))]
+pub fn tell_named(out: &mut [u64], a: Option<Datatype>) -> u32
     ensures { Replied (show_named a) out.old result out.new }
 {
-    match a {
-        Named::Unknown => 0,
-        Named::Known(d) => {
-            let n = payload::datatype_code(d);
-            tell_yes(out, n as u64)
-        }
-    }
+    let Some(d) = a else {
+        return 0;
+    };
+    let n = payload::datatype_code(d);
+    tell_yes(out, u64::from(n))
 }
 
-pub fn tell_format(out: &mut [u64], f: Format) -> u32
+#[tactic(auto, using(crate::proofs::Out::nothing), unfolding(crate::specs::Judgements::show_format))]
+pub fn tell_format(out: &mut [u64], f: Option<Format>) -> u32
     ensures { Replied (show_format f) out.old result out.new }
 {
-    match f {
-        Format::Bad => 0,
-        Format::AsGiven => tell_yes(out, 0),
-        Format::Colon => tell_yes(out, 1),
-        Format::FalseTrue => tell_yes(out, 2),
-        Format::NotKept => tell_yes(out, 3),
-    }
+    let Some(kept) = f else {
+        return 0;
+    };
+    tell_yes(out, kept as u64)
 }

@@ -16,6 +16,7 @@ pub mod strings;
 const PLACES_BELOW: usize = 0x1000000;
 
 // The number of a refusal that tells a place.
+#[tactic(auto, unfolding(crate::specs::Reply::telling))]
 pub fn refusal_code(number: u8, place: usize) -> u32
     ensures { result ≡ refusal_code (placed number (fit_place place)) }
 {
@@ -26,14 +27,8 @@ pub fn refusal_code(number: u8, place: usize) -> u32
 pub fn tell(out: &mut [u64], vs: &[u64]) -> u32
     ensures { Replied (says vs.now) out.old result out.new }
 {
-    let mut i: usize = 0;
-    while i < vs.len() {
-        if i >= out.len() {
-            return 0;
-        }
-        out[i] = vs[i];
-        i += 1;
-    }
+    let n = vs.len().min(out.len());
+    out[..n].copy_from_slice(&vs[..n]);
     0
 }
 

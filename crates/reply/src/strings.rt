@@ -1,29 +1,21 @@
 // A string of a description's text, decoded.
-ghost use Rattle.std.specs.Prelude.{◌≡◌, ◌≤◌, min, length};
+ghost use Rattle.std.specs.Prelude.{◌≤◌, length};
 ghost use Rattle.fields.specs.Values.{decoded_at};
 ghost use Rattle.reply.specs.Strings.{said_at, string_in, StringTold};
 
 use crate::{refusal_code, tell_value};
-use escapes::Decoding;
-use faults::{NOT_JSON, OTHER_RULE, WRONG_KIND};
-use json_text::Scan;
+use faults::FaultKind;
 
 // The most bytes that a description has.
 const TEXT_MOST: usize = 8192;
-
-fn least(a: usize, b: usize) -> usize
-    ensures { result ≡ min a b }
-{
-    if a < b { a } else { b }
-}
 
 fn tell_decoded(out: &mut [u64], buffer: &mut [u8], s: &[u8], k: usize) -> u32
     requires { length s.now ≤ 8192 }
     ensures { StringTold (said_at k (decoded_at s.now k)) out.old buffer.old result out.new buffer.new }
 {
     match fields::decode_at(s, k, buffer) {
-        Decoding::Half(p) => refusal_code(OTHER_RULE, p),
-        Decoding::Whole(n) => tell_value(out, n as u64),
+        Err(p) => refusal_code(FaultKind::RuleBroken.number(), p),
+        Ok(n) => tell_value(out, n as u64),
     }
 }
 
@@ -32,10 +24,10 @@ pub fn tell_string(out: &mut [u64], buffer: &mut [u8], s: &[u8], k: usize) -> u3
     ensures { StringTold (string_in s.now k) out.old buffer.old result out.new buffer.new }
 {
     if s.len() > TEXT_MOST {
-        return refusal_code(NOT_JSON, TEXT_MOST);
+        return refusal_code(FaultKind::NotJson.number(), TEXT_MOST);
     }
     match json_text::string::string(s, k) {
-        Scan::Bad(_) => refusal_code(WRONG_KIND, least(k, s.len())),
-        Scan::End(_) => tell_decoded(out, buffer, s, k),
+        Err(_) => refusal_code(FaultKind::WrongKind.number(), k.min(s.len())),
+        Ok(_) => tell_decoded(out, buffer, s, k),
     }
 }

@@ -1,9 +1,9 @@
 -- The effective state of a device hangs on its own state and on that of its root, on nothing else.
+use Rattle.std.specs.Prelude.{Option, None, Some}
 use Prim.Native.Nat.{ℕ}
 use mathlib.Core.Path.{◌≡◌, refl, ap, ◌∙◌}
 use mathlib.Core.List.{List}
 use mathlib.Core.Bool.{Bool, false, cond}
-use mathlib.Core.Option.{Option, none, some}
 use Rattle.answer.specs.Answer.{Answer, refused, gives}
 use Rattle.rules.specs.declared.DeviceState.{DeviceState}
 use Rattle.rules.specs.declared.DeviceState.TheVariants.{Init, Ready, Disconnected, Sleeping, Lost}
@@ -20,11 +20,11 @@ not_lost Sleeping n = refl
 not_lost Lost n = absurd (n refl)
 
 module _ (ds : List Device) (v : Device) where
-  pub no-root : root_of v.description ≡ none → effective ds v ≡ v.state
+  pub no-root : root_of v.description ≡ None → effective ds v ≡ v.state
   unfolding effective root_lost
   no-root e = ap (λ (r : Option (List ℕ)). cond (root_lost ds r) Lost v.state) e
 
-  module _ (root : List ℕ) (e : root_of v.description ≡ some root) where
+  module _ (root : List ℕ) (e : root_of v.description ≡ Some root) where
     by-root : effective ds v ≡ cond (found_lost (find root ds)) Lost v.state
     unfolding effective root_lost
     by-root = ap (λ (r : Option (List ℕ)). cond (root_lost ds r) Lost v.state) e

@@ -1,9 +1,9 @@
 -- What a taken message changes, and what it leaves.
+use Rattle.std.specs.Prelude.{Option, None, Some}
 use Prim.Native.Nat.{ℕ, suc}
 use mathlib.Core.Path.{◌≡◌, refl, sym, ap, ◌∙◌, subst}
 use mathlib.Core.List.{List, [], ◌∷◌, map}
 use mathlib.Core.Bool.{true, false, false≢true}
-use mathlib.Core.Option.{Option, none, some}
 use lib.ListN.{length}
 use Rattle.answer.specs.Answer.{Answer, refused, gives, and_then, only, Refusal}
 use Rattle.text.specs.Bytes.{eq_bytes, less_bytes}
@@ -60,8 +60,8 @@ module _ (id other : List ℕ) (apart : id ≡ other → ⊥) where
 
     worded-others : (s : Option DeviceState) → Given Stays (by_word d id x.time ds s)
     unfolding by_word
-    worded-others none = refl
-    worded-others (some s) = made-others s (find id ds)
+    worded-others None = refl
+    worded-others (Some s) = made-others s (find id ds)
 
     state-others : Given Stays (obey_state d id x ds)
     unfolding obey_state
@@ -77,13 +77,13 @@ module _ (id other : List ℕ) (apart : id ≡ other → ⊥) where
         lane-given Stays k p x _ (change-others (in_device (change_property node property (with_lane k (held_by x)))) (λ u. refl) ds)))
 
 module _ (d : ℕ) (x : Message) (ds : List Device) where
-  pub obey-others : (f : form.Form) (other : List ℕ) → (device_in f ≡ some other → ⊥) → Given (λ (es : List Device). find other es ≡ find other ds) (obey d x ds f)
+  pub obey-others : (f : form.Form) (other : List ℕ) → (device_in f ≡ Some other → ⊥) → Given (λ (es : List Device). find other es ≡ find other ds) (obey d x ds f)
   unfolding obey device_in
-  obey-others (form.state id) other n = state-others id other (λ e. n (ap some e)) d x ds
-  obey-others (form.description id) other n = description-others id other (λ e. n (ap some e)) d x ds
-  obey-others (form.value id a b) other n = lane-others id other (λ e. n (ap some e)) d x ds Value a b
-  obey-others (form.set id a b) other n = lane-others id other (λ e. n (ap some e)) d x ds Asked a b
-  obey-others (form.target id a b) other n = lane-others id other (λ e. n (ap some e)) d x ds Target a b
+  obey-others (form.state id) other n = state-others id other (λ e. n (ap Some e)) d x ds
+  obey-others (form.description id) other n = description-others id other (λ e. n (ap Some e)) d x ds
+  obey-others (form.value id a b) other n = lane-others id other (λ e. n (ap Some e)) d x ds Value a b
+  obey-others (form.set id a b) other n = lane-others id other (λ e. n (ap Some e)) d x ds Asked a b
+  obey-others (form.target id a b) other n = lane-others id other (λ e. n (ap Some e)) d x ds Target a b
   obey-others (form.alert id a) other n = given_then (λ (es : List Device). find other es ≡ find other ds) (find id ds) _ (λ v e. refl)
   obey-others (form.log id l) other n = given_then (λ (es : List Device). find other es ≡ find other ds) (find id ds) _ (λ v e. refl)
   obey-others (form.broadcast ids) other n = refl
@@ -104,37 +104,37 @@ module _ (d : ℕ) (x : Message) (ds : List Device) where
 -- ---- a lane's message leaves all but the lanes of its kind
 
 module _ (k : LaneKind) (h : Option Held) where
-  forgotten : (p : Property) → with_lane k none (with_lane k h p) ≡ with_lane k none p
+  forgotten : (p : Property) → with_lane k None (with_lane k h p) ≡ with_lane k None p
   unfolding with_lane
   forgotten p = go k
     where
-      go : (k : LaneKind) → with_lane k none (with_lane k h p) ≡ with_lane k none p
+      go : (k : LaneKind) → with_lane k None (with_lane k h p) ≡ with_lane k None p
       go Value = refl
       go Target = refl
       go Asked = refl
 
   module _ (node property : List ℕ) where
-    properties_forgotten : (ps : List Property) → map (with_lane k none) (change_property node property (with_lane k h) ps) ≡ map (with_lane k none) ps
+    properties_forgotten : (ps : List Property) → map (with_lane k None) (change_property node property (with_lane k h) ps) ≡ map (with_lane k None) ps
     unfolding change_property
     properties_forgotten [] = refl
     properties_forgotten (p ∷ ps) = both (is_named node property p)
-        (λ t. rw (t, change_property) (ap (λ (q : Property). q ∷ map (with_lane k none) ps) (forgotten p)))
-        (λ t. rw (t, change_property) (ap (λ (l : List Property). with_lane k none p ∷ l) (properties_forgotten ps)))
+        (λ t. rw (t, change_property) (ap (λ (q : Property). q ∷ map (with_lane k None) ps) (forgotten p)))
+        (λ t. rw (t, change_property) (ap (λ (l : List Property). with_lane k None p ∷ l) (properties_forgotten ps)))
 
-    device_forgotten : (v : Device) → in_device (map (with_lane k none)) (in_device (change_property node property (with_lane k h)) v) ≡ in_device (map (with_lane k none)) v
+    device_forgotten : (v : Device) → in_device (map (with_lane k None)) (in_device (change_property node property (with_lane k h)) v) ≡ in_device (map (with_lane k None)) v
     unfolding in_device in_description
     device_forgotten v = ap (λ (y : Option Description). with_description y v) (go v.description)
       where
-        go : (y : Option Description) → in_description (map (with_lane k none)) (in_description (change_property node property (with_lane k h)) y) ≡ in_description (map (with_lane k none)) y
-        go none = refl
-        go (some z) = ap (λ (ps : List Property). some (record { root = z.root; parent = z.parent; version = z.version; properties = ps })) (properties_forgotten z.properties)
+        go : (y : Option Description) → in_description (map (with_lane k None)) (in_description (change_property node property (with_lane k h)) y) ≡ in_description (map (with_lane k None)) y
+        go None = refl
+        go (Some z) = ap (λ (ps : List Property). Some (record { root = z.root; parent = z.parent; version = z.version; properties = ps })) (properties_forgotten z.properties)
 
     fill_forgotten : (id : List ℕ) (ds : List Device) → without k (change id (in_device (change_property node property (with_lane k h))) ds) ≡ without k ds
     unfolding without change
     fill_forgotten id [] = refl
     fill_forgotten id (v ∷ vs) = both (eq_bytes v.id id)
-        (λ t. rw (t, change) (ap (λ (w : Device). w ∷ map (in_device (map (with_lane k none))) vs) (device_forgotten v)))
-        (λ t. rw (t, change) (ap (λ (l : List Device). in_device (map (with_lane k none)) v ∷ l) (fill_forgotten id vs)))
+        (λ t. rw (t, change) (ap (λ (w : Device). w ∷ map (in_device (map (with_lane k None))) vs) (device_forgotten v)))
+        (λ t. rw (t, change) (ap (λ (l : List Device). in_device (map (with_lane k None)) v ∷ l) (fill_forgotten id vs)))
 
 pub lane_forgotten : (k : LaneKind) (id node property : List ℕ) (x : Message) (ds : List Device) → Given (λ (es : List Device). without k es ≡ without k ds) (obey_lane k id node property x ds)
 unfolding obey_lane fill
@@ -202,8 +202,8 @@ module _ {B : Type 0} (k : LaneKind) (h : Option Held) (node property : List ℕ
   told_device v = go v.description
     where
       go : (y : Option Description) → and_then (find_property a b (properties_of (in_description (change_property node property (with_lane k h)) y))) tell ≡ and_then (find_property a b (properties_of y)) tell
-      go none = refl
-      go (some z) = told-property z.properties
+      go None = refl
+      go (Some z) = told-property z.properties
 
 -- the answer to a question about a lane
 abbrev lane_asked : (a b c : List ℕ) → LaneKind → List Device → Answer ask.Value
@@ -239,8 +239,8 @@ changed-property k h node property (q ∷ qs) p e = both (is_named node property
 
 properties-changed : (k : LaneKind) (h : Option Held) (node property : List ℕ) (y : Option Description) → properties_of (in_description (change_property node property (with_lane k h)) y) ≡ change_property node property (with_lane k h) (properties_of y)
 unfolding properties_of in_description change_property
-properties-changed k h node property none = refl
-properties-changed k h node property (some z) = refl
+properties-changed k h node property None = refl
+properties-changed k h node property (Some z) = refl
 
 inserted : (w : Device) (ds : List Device) (n : Refusal) → find w.id ds ≡ refused n → find w.id (insert w ds) ≡ gives w
 unfolding find insert
@@ -249,18 +249,18 @@ inserted w (v ∷ vs) n e = let m = absent-first w.id v vs n e in both (less_byt
     (λ t. rw (t, insert) (rw (eq_bytes_yes w.id w.id refl, find)))
     (λ t. rw (t, insert) (rw (m.0, find) (inserted w vs n m.1)))
 
-filled-word : (s : List ℕ) (v : DeviceState) → state_worded s ≡ some v → is_empty s ≡ false
+filled-word : (s : List ℕ) (v : DeviceState) → state_worded s ≡ Some v → is_empty s ≡ false
 unfolding is_empty state_worded eq_bytes
 filled-word [] v e = absurd (false≢true (subst is_none e refl))
   where
     is_none : Option DeviceState → Type 0
-    is_none none = true ≡ true
-    is_none (some w) = false ≡ true
+    is_none None = true ≡ true
+    is_none (Some w) = false ≡ true
 filled-word (b ∷ s) v e = refl
 
 module _ (d : ℕ) (x : Message) (ds : List Device) (id : List ℕ) where
   -- "a state word makes or updates the device"
-  pub state-made : (s : DeviceState) → state_worded x.payload ≡ some s → Given (λ (es : List Device). find id es ≡ gives (updated id s x.time (find id ds))) (obey_state d id x ds)
+  pub state-made : (s : DeviceState) → state_worded x.payload ≡ Some s → Given (λ (es : List Device). find id es ≡ gives (updated id s x.time (find id ds))) (obey_state d id x ds)
   unfolding obey_state by_word make_or_update updated
   state-made s e = rw (filled-word x.payload s e, obey_state) (rw e (go (find id ds) refl))
     where
@@ -282,7 +282,7 @@ module _ (d : ℕ) (x : Message) (ds : List Device) (id : List ℕ) where
   state_freed e = rw (e, obey_state) (given_then (λ (es : List Device). suc (length es) ≡ length ds) (find id ds) _ (λ v i. remove_frees id ds v i))
 
   -- a state word leaves the lanes of every device that was there
-  pub state-lanes : (s : DeviceState) → state_worded x.payload ≡ some s → (a b c : List ℕ) (k : LaneKind) (w : Device) → find a ds ≡ gives w → Given (λ (es : List Device). lane_asked a b c k es ≡ lane_asked a b c k ds) (obey_state d id x ds)
+  pub state-lanes : (s : DeviceState) → state_worded x.payload ≡ Some s → (a b c : List ℕ) (k : LaneKind) (w : Device) → find a ds ≡ gives w → Given (λ (es : List Device). lane_asked a b c k es ≡ lane_asked a b c k ds) (obey_state d id x ds)
   unfolding obey_state by_word make_or_update
   state-lanes s e a b c k w f = rw (filled-word x.payload s e, obey_state) (rw e (go (find id ds) refl))
     where

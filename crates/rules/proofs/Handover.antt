@@ -1,9 +1,9 @@
 -- What a description hands on: valid payloads only, and all that it can where it is published again.
+use Rattle.std.specs.Prelude.{Option, None, Some}
 use Prim.Native.Nat.{ℕ}
 use mathlib.Core.Path.{◌≡◌, refl, sym, ap, ap₂, ◌∙◌}
 use mathlib.Core.List.{List, [], ◌∷◌, map}
 use mathlib.Core.Bool.{Bool, true, false, ◌&&◌, ◌||◌, false≢true}
-use mathlib.Core.Option.{Option, none, some}
 use Rattle.answer.specs.Answer.{Answer, refused, gives, and_then}
 use Rattle.text.specs.Bytes.{eq_bytes, less_bytes}
 use Rattle.text.proofs.Bytes.{both, and_both, or_cases, eq_bytes-refl, eq_bytes-true, eq_bytes_yes}
@@ -84,8 +84,8 @@ same-declared p (gives q) = refl
 kept-valid : (q : Property) (b : Bool) (h : Option Held) → (b ≡ true → still_valid q.declared h ≡ true) → holds_valid q (kept_if b h) ≡ true
 unfolding holds_valid kept_if still_valid is_valid
 kept-valid q false h k = refl
-kept-valid q true none k = refl
-kept-valid q true (some x) k = k refl
+kept-valid q true None k = refl
+kept-valid q true (Some x) k = k refl
 
 three : {a b c : Bool} → a ≡ true → b ≡ true → c ≡ true → (a && (b && c)) ≡ true
 three p q r = rw (p, q, r)
@@ -117,7 +117,7 @@ module _ (old : List Property) where
 none-handed : (ps : List declaration.Property) → map (successor []) ps ≡ empty_lanes ps
 unfolding successor succeeding find_property empty_lanes
 none-handed [] = refl
-none-handed (p ∷ ps) = ap (λ (l : List Property). record { declared = p; value = none; target = none; asked = none } ∷ l) (none-handed ps)
+none-handed (p ∷ ps) = ap (λ (l : List Property). record { declared = p; value = None; target = None; asked = None } ∷ l) (none-handed ps)
 
 pub first-bare : (x : Described) → republished [] x ≡ new_description x
 unfolding republished new_description
@@ -135,8 +135,8 @@ skip p qs (x ∷ xs) h =
 
 kept-all : (p : Property) (h : Option Held) → holds_valid p h ≡ true → kept_if (still_valid p.declared h) h ≡ h
 unfolding kept_if still_valid holds_valid is_valid
-kept-all p none e = refl
-kept-all p (some x) e = rw e
+kept-all p None e = refl
+kept-all p (Some x) e = rw e
 
 kept-retained : (b : Bool) (p : Property) (h : Option Held) → holds_valid p h ≡ true → kept_if ((b && b) && still_valid p.declared h) h ≡ kept_if b h
 unfolding kept_if
@@ -152,7 +152,7 @@ unfolding succeeding settled lanes_valid
 taken-over p e =
     let s = and_both (holds_valid p p.value) (holds_valid p p.target && holds_valid p p.asked) e in
     let u = and_both (holds_valid p p.target) (holds_valid p p.asked) s.1 in
-    ap₂ (λ (v t : Option Held). record { declared = p.declared; value = v; target = t; asked = none }) (kept-retained p.declared.retained p p.value s.0) (kept-all p p.target u.0)
+    ap₂ (λ (v t : Option Held). record { declared = p.declared; value = v; target = t; asked = None }) (kept-retained p.declared.retained p p.value s.0) (kept-all p p.target u.0)
 
 pub taken-over-all : (ps : List Property) → ascends (map (λ (p : Property). p.declared) ps) ≡ true → all_valid ps ≡ true → map (successor ps) (map (λ (p : Property). p.declared) ps) ≡ map settled ps
 unfolding successor find_property ascends all_valid
@@ -174,12 +174,12 @@ settled-found node id tell (p ∷ ps) = both (eq_bytes p.declared.node node && e
 
 -- ---- on a device and in its table
 
-module _ (id : List ℕ) (v : Device) (y : Description) (i : v.description ≡ some y) where
-  pub again : Proper id y → (s : List ℕ) → is_empty s ≡ false → describe id s ≡ gives (declared_in y) → described_by id v.description s ≡ gives (in_description (map settled) (some y))
+module _ (id : List ℕ) (v : Device) (y : Description) (i : v.description ≡ Some y) where
+  pub again : Proper id y → (s : List ℕ) → is_empty s ≡ false → describe id s ≡ gives (declared_in y) → described_by id v.description s ≡ gives (in_description (map settled) (Some y))
   unfolding described_by redescribed and_then properties_of republished declared_in in_description
-  again g s n e = rw (n, described_by) (rw (e, i) (ap (λ (ps : List Property). gives (some (record { root = y.root; parent = y.parent; version = y.version; properties = ps }))) (taken-over-all y.properties g.declares.ascending g.lanes)))
+  again g s n e = rw (n, described_by) (rw (e, i) (ap (λ (ps : List Property). gives (Some (record { root = y.root; parent = y.parent; version = y.version; properties = ps }))) (taken-over-all y.properties g.declares.ascending g.lanes)))
 
-  pub settled_device : with_description (in_description (map settled) (some y)) v ≡ in_device (map settled) v
+  pub settled_device : with_description (in_description (map settled) (Some y)) v ≡ in_device (map settled) v
   unfolding in_device
   settled_device = ap (λ (o : Option Description). with_description (in_description (map settled) o) v) (sym i)
 
@@ -195,7 +195,7 @@ pub found-retained : {a : Answer Property} {p q : Property} → a ≡ gives p �
 found-retained {a} {p} {q} e f r = let j : gives p ≡ gives q = sym e ∙ f in let k : p ≡ q = cc in rw (sym k) r
 
 -- a lane that settling keeps is asked for as before
-module _ (k : LaneKind) (id node property : List ℕ) (v : Device) (y : Description) (i : v.description ≡ some y) (ds es : List Device) where
+module _ (k : LaneKind) (id node property : List ℕ) (v : Device) (y : Description) (i : v.description ≡ Some y) (ds es : List Device) where
   abbrev told : Property → Answer Value
   told p = gives (a_lane (lane_of k p))
 

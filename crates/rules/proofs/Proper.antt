@@ -1,9 +1,9 @@
 -- The description of every device declares what a valid one may, and its lanes hold valid payloads only.
+use Rattle.std.specs.Prelude.{Option, None, Some}
 use Prim.Native.Nat.{ℕ}
 use mathlib.Core.Path.{◌≡◌, refl, sym, ap, ◌∙◌, subst}
 use mathlib.Core.List.{List, [], ◌∷◌, map}
 use mathlib.Core.Bool.{Bool, true, false, ◌&&◌, false≢true}
-use mathlib.Core.Option.{Option, none, some}
 use Rattle.answer.specs.Answer.{Answer, refused, gives, and_then}
 use Rattle.text.specs.Bytes.{eq_bytes, less_bytes}
 use Rattle.text.proofs.Bytes.{both, and_both, or_cases, eq_bytes-true}
@@ -62,10 +62,10 @@ module _ (P : Device → Type 0) where
 
 held_same : (k : LaneKind) (h : Option Held) (p : Property) (o : Option Held) → holds_valid (with_lane k h p) o ≡ holds_valid p o
 unfolding holds_valid with_lane is_valid
-held_same k h p none = refl
-held_same Value h p (some y) = refl
-held_same Target h p (some y) = refl
-held_same Asked h p (some y) = refl
+held_same k h p None = refl
+held_same Value h p (Some y) = refl
+held_same Target h p (Some y) = refl
+held_same Asked h p (Some y) = refl
 
 lane-valid : (k : LaneKind) (h : Option Held) (p : Property) → holds_valid p h ≡ true → lanes_valid p ≡ true → lanes_valid (with_lane k h p) ≡ true
 unfolding lanes_valid with_lane
@@ -116,14 +116,14 @@ rules_held P Target q x a h = given-require P _ 14 a (λ j. h (held_ok q x (λ n
 -- ---- a device
 
 abbrev Good : Device → Type 0
-Good v = (y : Description) → v.description ≡ some y → Proper v.id y
+Good v = (y : Description) → v.description ≡ Some y → Proper v.id y
 
-none-some : {A : Type 0} {X : Type 0} {y : A} → none ≡ some y → X
+none-some : {A : Type 0} {X : Type 0} {y : A} → None ≡ Some y → X
 none-some {A} e = absurd (false≢true (subst is_none e refl))
   where
     is_none : Option A → Type 0
-    is_none none = true ≡ true
-    is_none (some z) = false ≡ true
+    is_none None = true ≡ true
+    is_none (Some z) = false ≡ true
 
 republished-proper : (id : List ℕ) (old : List Property) (x : Described) → Declares id x → Proper id (republished old x)
 unfolding republished declared_in
@@ -132,21 +132,21 @@ republished-proper id old x h = record {
   lanes = successors-valid old x.properties;
 }
 
-described-proper : (id : List ℕ) (old : Option Description) (s : List ℕ) → Given (λ (o : Option Description). (y : Description) → o ≡ some y → Proper id y) (described_by id old s)
+described-proper : (id : List ℕ) (old : Option Description) (s : List ℕ) → Given (λ (o : Option Description). (y : Description) → o ≡ Some y → Proper id y) (described_by id old s)
 unfolding described_by redescribed
 described-proper id old s = given_choice Q (is_empty s) _ _ (λ y e. none-some e) (given_then Q (describe id s) _ (λ x e y i.
     let j : republished (properties_of old) x ≡ y = cc in subst (Proper id) j (republished-proper id (properties_of old) x (declares id s x e))))
   where
     Q : Option Description → Type 0
-    Q o = (y : Description) → o ≡ some y → Proper id y
+    Q o = (y : Description) → o ≡ Some y → Proper id y
 
 lane-proper : (k : LaneKind) (h : Option Held) (node property : List ℕ) (v : Device) (q : Property) → find_property node property (properties_of v.description) ≡ gives q → holds_valid q h ≡ true → Good v → Good (in_device (change_property node property (with_lane k h)) v)
 unfolding in_device in_description properties_of declared_in
 lane-proper k h node property v q e g good = go v.description refl e
   where
-    go : (o : Option Description) → v.description ≡ o → find_property node property (properties_of o) ≡ gives q → (y : Description) → in_description (change_property node property (with_lane k h)) o ≡ some y → Proper v.id y
-    go none i e y f = none-some f
-    go (some z) i e y f =
+    go : (o : Option Description) → v.description ≡ o → find_property node property (properties_of o) ≡ gives q → (y : Description) → in_description (change_property node property (with_lane k h)) o ≡ Some y → Proper v.id y
+    go None i e y f = none-some f
+    go (Some z) i e y f =
         let p = good z i in
         let z' : Description = record { root = z.root; parent = z.parent; version = z.version; properties = change_property node property (with_lane k h) z.properties } in
         let j : z' ≡ y = cc in
@@ -165,8 +165,8 @@ module _ (d : ℕ) (x : Message) (ds : List Device) (all : All Good ds) where
 
   worded-proper : (id : List ℕ) (s : Option DeviceState) → Given (All Good) (by_word d id x.time ds s)
   unfolding by_word
-  worded-proper id none = refl
-  worded-proper id (some s) = made-proper id s (find id ds) refl
+  worded-proper id None = refl
+  worded-proper id (Some s) = made-proper id s (find id ds) refl
 
   state-proper : (id : List ℕ) → Given (All Good) (obey_state d id x ds)
   unfolding obey_state
@@ -175,7 +175,7 @@ module _ (d : ℕ) (x : Message) (ds : List Device) (all : All Good ds) where
   description-proper : (id : List ℕ) → Given (All Good) (obey_description id x ds)
   unfolding obey_description
   description-proper id = given_then (All Good) (find id ds) _ (λ v e. given_then (All Good) (described_by id v.description x.payload) _ (λ o g.
-      all-change Good id (with_description o) ds v e (λ y i. subst (λ (n : List ℕ). Proper n y) (sym (all_found Good id ds v all e).1) (given (λ (o : Option Description). (y : Description) → o ≡ some y → Proper id y) (described-proper id v.description x.payload) g y i)) all))
+      all-change Good id (with_description o) ds v e (λ y i. subst (λ (n : List ℕ). Proper n y) (sym (all_found Good id ds v all e).1) (given (λ (o : Option Description). (y : Description) → o ≡ Some y → Proper id y) (described-proper id v.description x.payload) g y i)) all))
 
   lanes-proper : (k : LaneKind) (id node property : List ℕ) → Given (All Good) (obey_lane k id node property x ds)
   unfolding obey_lane fill
@@ -197,7 +197,7 @@ module _ (d : ℕ) (x : Message) (ds : List Device) (all : All Good ds) where
   obey-proper (form.broadcast ids) = all
   obey-proper (form.other id w ls) = unchanged-proper id
 
-pub from-proper : (domain : List ℕ) (d : ℕ) (t : Table) (xs : List Message) → t.devices ≡ [] → (id : List ℕ) (v : Device) (y : Description) → find id (from (rules domain d) t xs).devices ≡ gives v → v.description ≡ some y → Proper id y
+pub from-proper : (domain : List ℕ) (d : ℕ) (t : Table) (xs : List Message) → t.devices ≡ [] → (id : List ℕ) (v : Device) (y : Description) → find id (from (rules domain d) t xs).devices ≡ gives v → v.description ≡ Some y → Proper id y
 from-proper domain d t xs n id v y e i =
     let a = from-holds domain d (λ u. All Good u.devices) (λ u x p. message-given domain d u x (All Good) (λ f g. obey-proper d x u.devices p f)) t xs (rw n refl) in
     let p = all_found Good id (from (rules domain d) t xs).devices v a e in

@@ -1,16 +1,16 @@
 -- Which numbers a message and a question are refused with.
+use Rattle.faults.specs.Faults.{fault_number}
+use Rattle.faults.specs.declared.Fault.{Fault}
+use Rattle.std.specs.Prelude.{Option, None, Some}
 use Prim.Native.Nat.{ℕ, zero, suc}
 use native.Mathlib.Omega.{arith}
 use mathlib.Core.Path.{◌≡◌, refl, sym, subst}
 use mathlib.Core.List.{List, [], ◌∷◌}
 use mathlib.Core.Bool.{Bool, true, false, not, ◌&&◌, false≢true}
-use mathlib.Core.Option.{Option, none, some}
 use lib.Dec.{leb, eqb}
 use lib.ListN.{get_or}
 use borrow.Author.Tests.{leb-true, le-leb, ne_eqb}
 use Rattle.answer.specs.Answer.{Refusal, Answer, refused, gives, require, and_then, only, placed}
-use Rattle.faults.specs.declared.Told.{Told}
-use Rattle.faults.specs.declared.Told.TheVariants.{Nothing, At}
 use Rattle.text.specs.Bytes.{eq_bytes}
 use Rattle.text.proofs.Bytes.{and_both}
 use Rattle.text.specs.Split.{split}
@@ -96,11 +96,11 @@ module _ (test : Refusal → Bool) where
 described : (own s : List ℕ) → Passes of_message (describe own s)
 described own s = go (told own s) refl
   where
-    go : (t : Told) → told own s ≡ t → Passes of_message (describe own s)
-    go Nothing e = subst (λ (a : Answer Described). Passes of_message a) (sym (told-nothing own s e)) refl
-    go (At p n) e =
+    go : (t : Option Fault) → told own s ≡ t → Passes of_message (describe own s)
+    go None e = subst (λ (a : Answer Described). Passes of_message a) (sym (told-nothing own s e)) refl
+    go (Some x) e =
         let k = told-number own s e in
-        let h : of_message (placed n p) ≡ true = rw (le-leb 21 n k.0, le-leb n 25 k.1, le-leb p 8192 (told-short own s e)) in
+        let h : of_message (placed (fault_number x.kind) x.place) ≡ true = rw (le-leb 21 (fault_number x.kind) k.0, le-leb (fault_number x.kind) 25 k.1, le-leb x.place 8192 (told-short own s e)) in
         subst (λ (a : Answer Described). Passes of_message a) (sym (told_at own s e)) h
 
 made : (d : ℕ) (id : List ℕ) (s : DeviceState) (time : ℕ) (ds : List Device) (a : Answer Device) → Passes of_message (rule.make_or_update d id s time ds a)
@@ -110,8 +110,8 @@ made d id s time ds (refused n) = required of_message _ 13 _ refl refl
 
 worded : (d : ℕ) (id : List ℕ) (time : ℕ) (ds : List Device) (o : Option DeviceState) → Passes of_message (rule.by_word d id time ds o)
 unfolding rule.by_word
-worded d id time ds none = refl
-worded d id time ds (some s) = made d id s time ds (find id ds)
+worded d id time ds None = refl
+worded d id time ds (Some s) = made d id s time ds (find id ds)
 
 obeys-state : (d : ℕ) (id : List ℕ) (x : rule.Message) (ds : List Device) → Passes of_message (rule.obey_state d id x ds)
 unfolding rule.obey_state

@@ -1,10 +1,10 @@
 -- What a message that is taken has passed, and what holds of every table that messages make.
+use Rattle.std.specs.Prelude.{Option, None, Some}
 use Prim.Native.Nat.{ℕ, ◌≤◌}
 use native.Mathlib.Omega.{arith}
 use mathlib.Core.Path.{◌≡◌, refl, subst}
 use mathlib.Core.List.{List, [], ◌∷◌}
 use mathlib.Core.Bool.{true}
-use mathlib.Core.Option.{Option, none, some}
 use lib.ListN.{length}
 use borrow.Author.Tests.{leb-true, ltb-true}
 use Rattle.answer.specs.Answer.{Answer, refused, gives, and_then}
@@ -66,12 +66,12 @@ module _ (domain : List ℕ) (d : ℕ) (t : Table) (x : Message) where
   form-message P f e h = message-given P (λ g i. let q : f ≡ g = cc in subst (λ (k : form.Form). Given P (obey d x t.devices k)) q h)
 
   -- "Every message taken becomes the last time"
-  pub last-given : Given (λ (u : Table). u.last ≡ some x.time) (message domain d t x)
+  pub last-given : Given (λ (u : Table). u.last ≡ Some x.time) (message domain d t x)
   unfolding message
   last-given = given_then Q (admitted_form domain t x) _ (λ f e. given_then Q (obey d x t.devices f) _ (λ ds g. refl))
     where
       Q : Table → Type 0
-      Q u = u.last ≡ some x.time
+      Q u = u.last ≡ Some x.time
 
   pub due-given : Given (λ (u : Table). is_due t.last x.time ≡ true) (message domain d t x)
   unfolding message
@@ -103,8 +103,8 @@ module _ (d : ℕ) (x : Message) (ds : List Device) (o : Invariant d ds) where
 
   worded_orderly : (id : List ℕ) (s : Option DeviceState) → is_id id ≡ true → Given (Invariant d) (by_word d id x.time ds s)
   unfolding by_word
-  worded_orderly id none i = refl
-  worded_orderly id (some s) i = made_orderly id s (find id ds) i refl
+  worded_orderly id None i = refl
+  worded_orderly id (Some s) i = made_orderly id s (find id ds) i refl
 
   state_orderly : (id : List ℕ) → is_id id ≡ true → Given (Invariant d) (obey_state d id x ds)
   unfolding obey_state
@@ -139,13 +139,13 @@ from_orderly domain d t xs o = from-holds domain d (λ u. Invariant d u.devices)
 
 -- ---- the last time never falls
 
-due-step : (u w time : ℕ) → u ≤ w → is_due (some w) time ≡ true → u ≤ time
+due-step : (u w time : ℕ) → u ≤ w → is_due (Some w) time ≡ true → u ≤ time
 unfolding is_due
 due-step u w time h e = omega (arith, h, leb-true w time e)
 
 pub from-due : (domain : List ℕ) (d u : ℕ) (t : Table) (xs : List Message) → NotBefore u t → NotBefore u (from (rules domain d) t xs)
 from-due domain d u t xs p = from-holds domain d (NotBefore u) (λ v x h. go v x h (message domain d v x) (last-given domain d v x) (due-given domain d v x)) t xs p
   where
-    go : (v : Table) (x : Message) → NotBefore u v → (a : Answer Table) → Given (λ (y : Table). y.last ≡ some x.time) a → Given (λ (y : Table). is_due v.last x.time ≡ true) a → Given (NotBefore u) a
+    go : (v : Table) (x : Message) → NotBefore u v → (a : Answer Table) → Given (λ (y : Table). y.last ≡ Some x.time) a → Given (λ (y : Table). is_due v.last x.time ≡ true) a → Given (NotBefore u) a
     go v x h (refused n) p q = refl
     go v x h (gives y) p q = record { time = x.time; last = p; due = due-step u h.time x.time h.due (rw h.last at q) }

@@ -1,10 +1,10 @@
 -- What the rules of the table promise. Paper 01, "The table", "Refusal numbers", "Easy errors".
+use Rattle.std.specs.Prelude.{Option, None, Some}
 use Prim.Native.Nat.{ℕ, suc}
 use native.Mathlib.Omega.{arith}
 use mathlib.Core.Path.{◌≡◌, refl, ap, ◌∙◌}
 use mathlib.Core.List.{List, [], map}
 use mathlib.Core.Bool.{true, false}
-use mathlib.Core.Option.{Option, none, some}
 use lib.ListN.{length}
 use Rattle.text.specs.Ascii.{ascii}
 use Rattle.answer.specs.Answer.{refused, gives, only, Refusal}
@@ -41,15 +41,15 @@ orderly domain d xs = from_orderly domain d no_devices xs (record { ascending = 
 
 -- "the i-th property by node ID, then property ID": after any list of messages what a device declares is what a valid description may (at most 24
 -- properties, strictly ascending, IDs, kept formats), and its lanes are empty or hold payloads that are valid for their property
-pub proper : (domain : List ℕ) (d : ℕ) (xs : List Message) {id : List ℕ} {v : Device} {y : Description} → find id (book.table_after (rules domain d) xs).devices ≡ gives v → v.description ≡ some y → Proper id y
+pub proper : (domain : List ℕ) (d : ℕ) (xs : List Message) {id : List ℕ} {v : Device} {y : Description} → find id (book.table_after (rules domain d) xs).devices ≡ gives v → v.description ≡ Some y → Proper id y
 proper domain d xs {id} {v} {y} e i = from-proper domain d no_devices xs refl id v y e i
 
 -- "Every message taken becomes the last time"; the last time never falls
 module _ (domain : List ℕ) (d : ℕ) where
-  pub last-time : (t t' : Table) (x : Message) → message domain d t x ≡ gives t' → t'.last ≡ some x.time
-  last-time t t' x e = given (λ (u : Table). u.last ≡ some x.time) (last-given domain d t x) e
+  pub last-time : (t t' : Table) (x : Message) → message domain d t x ≡ gives t' → t'.last ≡ Some x.time
+  last-time t t' x e = given (λ (u : Table). u.last ≡ Some x.time) (last-given domain d t x) e
 
-  pub times-never_fall : (t : Table) (u : ℕ) (xs : List Message) → t.last ≡ some u → NotBefore u (book.from (rules domain d) t xs)
+  pub times-never_fall : (t : Table) (u : ℕ) (xs : List Message) → t.last ≡ Some u → NotBefore u (book.from (rules domain d) t xs)
   times-never_fall t u xs e = from-due domain d u t xs (record { time = u; last = e; due = omega arith })
 
   -- ---- what a taken message changes
@@ -59,7 +59,7 @@ module _ (domain : List ℕ) (d : ℕ) where
     effect {f} P h g = given (λ (u : Table). P u.devices) (form-message domain d t x P f h.formed g) h.taken
 
     -- "state: a state word makes or updates the device"
-    pub state-word : {id : List ℕ} {s : DeviceState} → Takes domain d t x (form.state id) t' → state_worded x.payload ≡ some s → find id t'.devices ≡ gives (updated id s x.time (find id t.devices))
+    pub state-word : {id : List ℕ} {s : DeviceState} → Takes domain d t x (form.state id) t' → state_worded x.payload ≡ Some s → find id t'.devices ≡ gives (updated id s x.time (find id t.devices))
     unfolding obey
     state-word {id} {s} h e = effect (λ ds. find id ds ≡ gives (updated id s x.time (find id t.devices))) h (state-made d x t.devices id s e)
 
@@ -80,7 +80,7 @@ module _ (domain : List ℕ) (d : ℕ) where
 
     -- paper 02, K2: "our picture goes blank while the house works" no more. A description published again as it is keeps every target and, of retained
     -- properties, every value; what was asked is gone, and so is the value of a property that is not retained
-    module _ {id : List ℕ} {v : Device} {y : Description} (h : Takes domain d t x (form.description id) t') (e : find id t.devices ≡ gives v) (i : v.description ≡ some y) (g : Proper id y)
+    module _ {id : List ℕ} {v : Device} {y : Description} (h : Takes domain d t x (form.description id) t') (e : find id t.devices ≡ gives v) (i : v.description ≡ Some y) (g : Proper id y)
         (filled : is_empty x.payload ≡ false) (same : describe id x.payload ≡ gives (declared_in y)) where
       pub republished-same : find id t'.devices ≡ gives (in_device (map settled) v)
       republished-same = described h e (again id v y i g x.payload filled same) ∙ ap gives (settled_device id v y i)
@@ -132,12 +132,12 @@ module _ (domain : List ℕ) (d : ℕ) where
     unfolding obey reply
     target-keeps-values {id} {n} {p} a b c h = effect _ h (lane-others-asked Value Target value-target x t.devices a b c id n p)
 
-    pub state-keeps-values : {id : List ℕ} {s : DeviceState} (a b c : List ℕ) {v : Device} → Takes domain d t x (form.state id) t' → state_worded x.payload ≡ some s → find a t.devices ≡ gives v → reply t' (ask_lane a b c Value) ≡ reply t (ask_lane a b c Value)
+    pub state-keeps-values : {id : List ℕ} {s : DeviceState} (a b c : List ℕ) {v : Device} → Takes domain d t x (form.state id) t' → state_worded x.payload ≡ Some s → find a t.devices ≡ gives v → reply t' (ask_lane a b c Value) ≡ reply t (ask_lane a b c Value)
     unfolding obey reply
     state-keeps-values {id} {s} a b c {v} h e f = effect _ h (state-lanes d x t.devices id s e a b c Value v f)
 
     -- a message leaves every device that its topic does not name
-    pub others_stay : {f : form.Form} (other : List ℕ) → Takes domain d t x f t' → (device_in f ≡ some other → ⊥) → find other t'.devices ≡ find other t.devices
+    pub others_stay : {f : form.Form} (other : List ℕ) → Takes domain d t x f t' → (device_in f ≡ Some other → ⊥) → find other t'.devices ≡ find other t.devices
     others_stay {f} other h n = effect (λ ds. find other ds ≡ find other t.devices) h (obey-others d x t.devices f other n)
 
     -- "A child's stored state overwritten when its root is lost": a state message leaves every other device as it was
@@ -175,14 +175,14 @@ described-first = first-bare
 -- ---- "Effective state: `lost` if the device has a root that is in the table with own state `lost`; else its own."
 
 module _ (ds : List Device) (v : Device) where
-  pub effective_lost : {root : List ℕ} {w : Device} → root_of v.description ≡ some root → find root ds ≡ gives w → w.state ≡ Lost → effective ds v ≡ Lost
+  pub effective_lost : {root : List ℕ} {w : Device} → root_of v.description ≡ Some root → find root ds ≡ gives w → w.state ≡ Lost → effective ds v ≡ Lost
   effective_lost {root} {w} e f l = root_lost_lem ds v root e w f l
 
   -- a root that is not in the table, or whose own state is not lost, whatever the root's root: its own
-  pub effective-one-root : {root : List ℕ} → root_of v.description ≡ some root → ((w : Device) → find root ds ≡ gives w → w.state ≡ Lost → ⊥) → effective ds v ≡ v.state
+  pub effective-one-root : {root : List ℕ} → root_of v.description ≡ Some root → ((w : Device) → find root ds ≡ gives w → w.state ≡ Lost → ⊥) → effective ds v ≡ v.state
   effective-one-root {root} e n = root-not_lost ds v root e n
 
-  pub effective_no-root : root_of v.description ≡ none → effective ds v ≡ v.state
+  pub effective_no-root : root_of v.description ≡ None → effective ds v ≡ v.state
   effective_no-root e = no-root ds v e
 
 -- The paper's worked trace is answered as it is written there.

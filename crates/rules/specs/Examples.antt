@@ -1,6 +1,5 @@
 -- Paper 01, "Known examples": the worked trace, as calls on a table opened with `homie`, D 4, J 3, and as answers.
-use Rattle.std.specs.Prelude.{ℕ, List, [], ◌∷◌, true, false}
-use Rattle.std.proofs.Math.Option.{none, some}
+use Rattle.std.specs.Prelude.{ℕ, List, [], ◌∷◌, true, false, None, Some}
 use Rattle.text.specs.Ascii.{ascii}
 use Rattle.payload.specs.declared.Datatype.TheVariants as D
 use Rattle.answer.specs.Answer.{Answer, refused, gives, only}
@@ -45,8 +44,8 @@ expected =
     ∷ gives (an_id lamp)
     ∷ gives (two_states Init Init 4294967290)
     ∷ gives (a_property (record { node = light; id = on; datatype = D.Boolean; format = ascii "false,true"; settable = true; retained = true }))
-    ∷ gives (a_lane none)
-    ∷ gives (a_lane none)
-    ∷ gives (a_lane (some (record { time = 4294967300; payload = ascii "true" })))
+    ∷ gives (a_lane None)
+    ∷ gives (a_lane None)
+    ∷ gives (a_lane (Some (record { time = 4294967300; payload = ascii "true" })))
     ∷ gives (a_number 3)
     ∷ []

@@ -1,6 +1,5 @@
 -- Devices by ID and properties by their two IDs: found, changed, taken out, put in.
-use Rattle.std.specs.Prelude.{ℕ, zero, suc, List, [], ◌∷◌, Bool, true, false, ◌&&◌}
-use Rattle.std.proofs.Math.Option.{Option, none, some}
+use Rattle.std.specs.Prelude.{ℕ, zero, suc, List, [], ◌∷◌, Bool, true, false, ◌&&◌, Option, None, Some}
 use Rattle.answer.specs.Answer.{Answer, refused, gives, only}
 use Rattle.text.specs.Bytes.{eq_bytes, less_bytes}
 use Rattle.rules.specs.Table.{Property, Description, Device}
@@ -40,8 +39,8 @@ change_property node id f (p ∷ ps) = elim (is_named node id p) [ true ↦ f p 
 
 -- a device with one of its properties changed
 unfoldable pub in_description : (List Property → List Property) → Option Description → Option Description
-in_description f none = none
-in_description f (some x) = some (record { root = x.root; parent = x.parent; version = x.version; properties = f x.properties })
+in_description f None = None
+in_description f (Some x) = Some (record { root = x.root; parent = x.parent; version = x.version; properties = f x.properties })
 
 unfoldable pub in_device : (List Property → List Property) → Device → Device
 in_device f v = record { id = v.id; state = v.state; time = v.time; description = in_description f v.description }

@@ -1,6 +1,5 @@
 -- Paper 02, K2: what a device's description hands on to the next one, property by property.
-use Rattle.std.specs.Prelude.{List, map, Bool, true, false, ◌&&◌}
-use Rattle.std.proofs.Math.Option.{Option, none, some}
+use Rattle.std.specs.Prelude.{List, map, Bool, true, false, ◌&&◌, Option, None, Some}
 use Rattle.answer.specs.Answer.{Answer, refused, gives}
 use Rattle.payload.specs.Payloads.{is_payload}
 use Rattle.properties.specs.Property as declaration
@@ -10,17 +9,17 @@ use Rattle.rules.specs.Find.{find_property}
 
 -- "the payload is valid under the new datatype and format"; an empty lane has none
 unfoldable pub still_valid : declaration.Property → Option Held → Bool
-still_valid p none = false
-still_valid p (some h) = is_payload p.datatype p.format h.payload
+still_valid p None = false
+still_valid p (Some h) = is_payload p.datatype p.format h.payload
 
 -- "keeps a .. lane, with its time, if ..", else it is empty
 unfoldable pub kept_if : Bool → Option Held → Option Held
 kept_if true h = h
-kept_if false h = none
+kept_if false h = None
 
 -- the property that is declared now, by what was found under its IDs
 unfoldable pub succeeding : declaration.Property → Answer Property → Property
-succeeding p (refused n) = record { declared = p; value = none; target = none; asked = none }
+succeeding p (refused n) = record { declared = p; value = None; target = None; asked = None }
 succeeding p (gives q) = record {
   declared = p;
   -- "a value lane .. if the property exists before and after, is retained in both, and the payload is valid under the new datatype and format"
@@ -28,7 +27,7 @@ succeeding p (gives q) = record {
   -- "The target lane is kept if the property exists in both and the payload is valid."
   target = kept_if (still_valid p q.target) q.target;
   -- "The asked lane is emptied, because a set is never retained."
-  asked = none;
+  asked = None;
 }
 
 -- a property is the same one where its node's ID and its own are

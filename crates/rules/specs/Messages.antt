@@ -1,6 +1,5 @@
 -- Paper 01, "The table": what a message makes of a table, or its refusal. "Message order: 6, 7, 8, 9, 10, 11 (forms with a fixed flag), then .." by form.
-use Rattle.std.specs.Prelude.{ℕ, List, [], ◌∷◌, Bool, true, false, not, ◌&&◌, ◌||◌, length, leb, ltb}
-use Rattle.std.proofs.Math.Option.{Option, none, some}
+use Rattle.std.specs.Prelude.{ℕ, List, [], ◌∷◌, Bool, true, false, not, ◌&&◌, ◌||◌, length, leb, ltb, Option, None, Some}
 use Rattle.answer.specs.Answer.{Answer, refused, gives, require, and_then, only}
 use Rattle.text.specs.Utf8.{is_text}
 use Rattle.topic.specs.Form as form
@@ -34,7 +33,7 @@ abbrev pub with_state : DeviceState → ℕ → Device → Device
 with_state s time v = record { id = v.id; state = s; time = time; description = v.description }
 
 abbrev pub new_device : List ℕ → DeviceState → ℕ → Device
-new_device id s time = record { id = id; state = s; time = time; description = none }
+new_device id s time = record { id = id; state = s; time = time; description = None }
 
 -- "a state word makes or updates the device". 13: "new device, and D devices are there"
 unfoldable pub make_or_update : ℕ → List ℕ → DeviceState → ℕ → List Device → Answer Device → Answer (List Device)
@@ -43,8 +42,8 @@ make_or_update d id s time ds (refused n) = require (ltb (length ds) d) 13 (give
 
 -- 14: "state word .. not valid"
 unfoldable pub by_word : ℕ → List ℕ → ℕ → List Device → Option DeviceState → Answer (List Device)
-by_word d id time ds none = refused (only 14)
-by_word d id time ds (some s) = make_or_update d id s time ds (find id ds)
+by_word d id time ds None = refused (only 14)
+by_word d id time ds (Some s) = make_or_update d id s time ds (find id ds)
 
 -- "empty payload removes it and frees its room for any other"
 unfoldable pub obey_state : ℕ → List ℕ → Message → List Device → Answer (List Device)
@@ -60,11 +59,11 @@ with_description y v = record { id = v.id; state = v.state; time = v.time; descr
 
 -- a description that is not empty "replaces what the device has", but for the lanes that are handed on (paper 02, K2)
 unfoldable pub redescribed : (id : List ℕ) → (old : Option Description) → (payload : List ℕ) → Answer (Option Description)
-redescribed id old payload = and_then (describe id payload) (λ y. gives (some (republished (properties_of old) y)))
+redescribed id old payload = and_then (describe id payload) (λ y. gives (Some (republished (properties_of old) y)))
 
 -- "Empty payload removes the description and the lanes."; paper 02, K2: "An empty description still clears everything."
 unfoldable pub described_by : (id : List ℕ) → (old : Option Description) → (payload : List ℕ) → Answer (Option Description)
-described_by id old payload = elim (is_empty payload) [ true ↦ gives none | false ↦ redescribed id old payload ]
+described_by id old payload = elim (is_empty payload) [ true ↦ gives None | false ↦ redescribed id old payload ]
 
 unfoldable pub obey_description : List ℕ → Message → List Device → Answer (List Device)
 obey_description id x ds =
@@ -76,7 +75,7 @@ obey_description id x ds =
 
 -- what a lane holds after a message: "fill that lane; empty payload empties it"
 unfoldable pub held_by : Message → Option Held
-held_by x = elim (is_empty x.payload) [ true ↦ none | false ↦ some (record { time = x.time; payload = x.payload }) ]
+held_by x = elim (is_empty x.payload) [ true ↦ None | false ↦ Some (record { time = x.time; payload = x.payload }) ]
 
 unfoldable pub fill : LaneKind → List ℕ → List ℕ → List ℕ → Message → List Device → List Device
 fill lane id node property x ds = change id (in_device (change_property node property (with_lane lane (held_by x)))) ds
@@ -133,8 +132,8 @@ obey d x ds (form.other id w ls) = and_then (find id ds) (λ v. gives ds)
 
 -- 7: "time before the last one"
 unfoldable pub is_due : Option ℕ → ℕ → Bool
-is_due none time = true
-is_due (some last) time = leb last time
+is_due None time = true
+is_due (Some last) time = leb last time
 
 -- the form of a message that passes 7 to 11 (forms with a fixed flag)
 unfoldable pub admitted_form : List ℕ → Table → Message → Answer form.Form
@@ -150,4 +149,4 @@ unfoldable pub message : (domain : List ℕ) → (d : ℕ) → Table → Message
 message domain d t x =
     and_then (admitted_form domain t x) (λ f.
     and_then (obey d x t.devices f) (λ ds.
-    gives (record { devices = ds; last = some x.time })))
+    gives (record { devices = ds; last = Some x.time })))

@@ -1,6 +1,5 @@
 -- What the theorems say of tables: the order of the devices, what else they have but one lane, and whom a message is about.
-use Rattle.std.specs.Prelude.{ℕ, ◌≤◌, ◌≡◌, List, [], ◌∷◌, map, Bool, true, false, ◌&&◌, ◌||◌, length, leb, eqb}
-use Rattle.std.proofs.Math.Option.{Option, none, some}
+use Rattle.std.specs.Prelude.{ℕ, ◌≤◌, ◌≡◌, List, [], ◌∷◌, map, Bool, true, false, ◌&&◌, ◌||◌, length, leb, eqb, Option, None, Some}
 use Rattle.answer.specs.Answer.{Refusal, Answer, refused, gives}
 use Rattle.text.specs.Bytes.{less_bytes}
 use Rattle.text.specs.Ids.{is_id}
@@ -42,7 +41,7 @@ pub record Invariant (d : ℕ) (ds : List Device) : Type 0 where
 -- a table that has a last time, not before u
 pub record NotBefore (u : ℕ) (t : Table) : Type 0 where
   pub time : ℕ
-  pub last : t.last ≡ some time
+  pub last : t.last ≡ Some time
   pub due : u ≤ time
 
 -- a device as a state word "makes or updates" it
@@ -52,19 +51,19 @@ updated id s time (refused n) = new_device id s time
 
 -- all that devices have but the lanes of one kind
 unfoldable pub without : LaneKind → List Device → List Device
-without k ds = map (in_device (map (with_lane k none))) ds
+without k ds = map (in_device (map (with_lane k None))) ds
 
 -- the device that a message's topic names, if one
 unfoldable pub device_in : form.Form → Option (List ℕ)
-device_in (form.state id) = some id
-device_in (form.description id) = some id
-device_in (form.value id n p) = some id
-device_in (form.set id n p) = some id
-device_in (form.target id n p) = some id
-device_in (form.alert id a) = some id
-device_in (form.log id l) = some id
-device_in (form.broadcast ids) = none
-device_in (form.other id w ls) = some id
+device_in (form.state id) = Some id
+device_in (form.description id) = Some id
+device_in (form.value id n p) = Some id
+device_in (form.set id n p) = Some id
+device_in (form.target id n p) = Some id
+device_in (form.alert id a) = Some id
+device_in (form.log id l) = Some id
+device_in (form.broadcast ids) = None
+device_in (form.other id w ls) = Some id
 
 -- "alert, log, broadcast, other"
 unfoldable pub is_report : form.Form → Bool
@@ -84,8 +83,8 @@ declared_in y = record { root = y.root; parent = y.parent; version = y.version; 
 
 -- each lane is empty or holds a payload that is valid for its property
 unfoldable pub holds_valid : Property → Option Held → Bool
-holds_valid p none = true
-holds_valid p (some h) = is_valid p h.payload
+holds_valid p None = true
+holds_valid p (Some h) = is_valid p h.payload
 
 unfoldable pub lanes_valid : Property → Bool
 lanes_valid p = holds_valid p p.value && (holds_valid p p.target && holds_valid p p.asked)
@@ -96,7 +95,7 @@ all_valid (p ∷ ps) = lanes_valid p && all_valid ps
 
 -- paper 02, K2: a property whose description is published again as it was. The target stays, a value where it is retained, and nothing is asked
 unfoldable pub settled : Property → Property
-settled p = record { declared = p.declared; value = kept_if p.declared.retained p.value; target = p.target; asked = none }
+settled p = record { declared = p.declared; value = kept_if p.declared.retained p.value; target = p.target; asked = None }
 
 -- what holds of the description that a device with that ID has
 pub record Proper (id : List ℕ) (y : Description) : Type 0 where

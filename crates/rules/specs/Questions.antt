@@ -1,6 +1,5 @@
 -- Paper 01, "The table": the questions, and what they are answered from a table.
-use Rattle.std.specs.Prelude.{ℕ, zero, suc, ◌+◌, List, [], ◌∷◌, Bool, true, false, cond, length, ℤ}
-use Rattle.std.proofs.Math.Option.{Option, none, some}
+use Rattle.std.specs.Prelude.{ℕ, zero, suc, ◌+◌, List, [], ◌∷◌, Bool, true, false, cond, length, ℤ, Option, None, Some}
 use Rattle.answer.specs.Answer.{Answer, refused, gives, and_then, only}
 use Rattle.properties.specs.Property as declaration
 use Rattle.rules.specs.declared.DeviceState.{DeviceState}
@@ -57,16 +56,16 @@ found_lost (refused n) = false
 found_lost (gives v) = is_lost v.state
 
 unfoldable pub root_lost : List Device → Option (List ℕ) → Bool
-root_lost ds none = false
-root_lost ds (some root) = found_lost (find root ds)
+root_lost ds None = false
+root_lost ds (Some root) = found_lost (find root ds)
 
 unfoldable pub effective : List Device → Device → DeviceState
 effective ds v = cond (root_lost ds (root_of v.description)) Lost v.state
 
 -- "how many of its properties hold a value"
 unfoldable pub is_filled : Option Held → Bool
-is_filled none = false
-is_filled (some h) = true
+is_filled None = false
+is_filled (Some h) = true
 
 unfoldable pub filled_in : List Property → ℕ
 filled_in [] = 0

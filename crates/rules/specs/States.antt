@@ -1,12 +1,9 @@
 -- Paper 01, "The table": "state (`init`, `ready`, `disconnected`, `sleeping`, `lost`)".
-use Rattle.std.specs.Prelude.{ℕ, List, [], ◌∷◌, cond, get_or}
-use Rattle.std.proofs.Math.Option.{Option, none, some}
+use Rattle.std.specs.Prelude.{ℕ, List, [], ◌∷◌, cond, get_or, Option, None, Some}
 use Rattle.text.specs.Ascii.{ascii}
 use Rattle.text.specs.Bytes.{eq_bytes}
 use Rattle.rules.specs.declared.DeviceState.{DeviceState}
 use Rattle.rules.specs.declared.DeviceState.TheVariants.{Init, Ready, Disconnected, Sleeping, Lost}
-use Rattle.rules.specs.declared.Worded.{Worded}
-use Rattle.rules.specs.declared.Worded.TheVariants.{State, NoState}
 
 abbrev pub device_states : List DeviceState
 device_states = Init ∷ Ready ∷ Disconnected ∷ Sleeping ∷ Lost ∷ []
@@ -20,16 +17,11 @@ word_of Lost = ascii "lost"
 
 -- the state of a word
 abbrev pub worded_in : List DeviceState → List ℕ → Option DeviceState
-worded_in [] s = none
-worded_in (x ∷ xs) s = cond (eq_bytes s (word_of x)) (some x) (worded_in xs s)
+worded_in [] s = None
+worded_in (x ∷ xs) s = cond (eq_bytes s (word_of x)) (Some x) (worded_in xs s)
 
 unfoldable pub state_worded : List ℕ → Option DeviceState
 state_worded s = worded_in device_states s
-
--- what the answer of `read_state` says
-abbrev pub worded : Worded → Option DeviceState
-worded (State x) = some x
-worded NoState = none
 
 -- its place among the five, for memory; a number past the last is the last
 unfoldable pub code_of : DeviceState → ℕ

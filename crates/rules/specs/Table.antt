@@ -1,6 +1,5 @@
 -- Paper 01, "The table": what a table holds.
-use Rattle.std.specs.Prelude.{ℕ, List, [], ◌∷◌, ℤ}
-use Rattle.std.proofs.Math.Option.{Option, none, some}
+use Rattle.std.specs.Prelude.{ℕ, List, [], ◌∷◌, ℤ, Option, None, Some}
 use Rattle.properties.specs.Property as declaration
 use Rattle.description.specs.Description.{Described}
 use Rattle.rules.specs.declared.DeviceState.{DeviceState}
@@ -51,29 +50,29 @@ pub record Table : Type 0 where
 
 -- "from no devices and no last time"
 abbrev pub no_devices : Table
-no_devices = record { devices = []; last = none }
+no_devices = record { devices = []; last = None }
 
 -- what a device without a description has of one
 unfoldable pub root_of : Option Description → Option (List ℕ)
-root_of none = none
-root_of (some x) = x.root
+root_of None = None
+root_of (Some x) = x.root
 
 unfoldable pub parent_of : Option Description → Option (List ℕ)
-parent_of none = none
-parent_of (some x) = x.parent
+parent_of None = None
+parent_of (Some x) = x.parent
 
 unfoldable pub version_of : Option Description → Option ℤ
-version_of none = none
-version_of (some x) = some x.version
+version_of None = None
+version_of (Some x) = Some x.version
 
 unfoldable pub properties_of : Option Description → List Property
-properties_of none = []
-properties_of (some x) = x.properties
+properties_of None = []
+properties_of (Some x) = x.properties
 
 -- a description as its text says, before anything is handed on to it (Handover): all lanes are empty
 unfoldable pub empty_lanes : List declaration.Property → List Property
 empty_lanes [] = []
-empty_lanes (p ∷ ps) = record { declared = p; value = none; target = none; asked = none } ∷ empty_lanes ps
+empty_lanes (p ∷ ps) = record { declared = p; value = None; target = None; asked = None } ∷ empty_lanes ps
 
 unfoldable pub new_description : Described → Description
 new_description x = record { root = x.root; parent = x.parent; version = x.version; properties = empty_lanes x.properties }

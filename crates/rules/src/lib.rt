@@ -2,21 +2,15 @@
 #![tactic(auto)]
 
 ghost use Rattle.std.specs.Prelude.{◌≡◌};
-ghost use Rattle.rules.specs.States.{state_worded, worded, code_of, state_at};
+ghost use Rattle.rules.specs.States.{state_worded, code_of, state_at};
 
 #[derive(Clone, Copy)]
 pub enum DeviceState {
-    Init,
-    Ready,
-    Disconnected,
-    Sleeping,
-    Lost,
-}
-
-#[derive(Clone, Copy)]
-pub enum Worded {
-    State(DeviceState),
-    NoState,
+    Init = 0,
+    Ready = 1,
+    Disconnected = 2,
+    Sleeping = 3,
+    Lost = 4,
 }
 
 #[derive(Clone, Copy)]
@@ -27,55 +21,46 @@ pub enum LaneKind {
 }
 
 // The state of a word.
-pub fn read_state(s: &[u8]) -> Worded
-    ensures { worded result ≡ state_worded s.now }
+pub fn read_state(s: &[u8]) -> Option<DeviceState>
+    ensures { result ≡ state_worded s.now }
 {
     if text::same(s, b"init") {
-        return Worded::State(DeviceState::Init);
+        return Some(DeviceState::Init);
     }
     if text::same(s, b"ready") {
-        return Worded::State(DeviceState::Ready);
+        return Some(DeviceState::Ready);
     }
     if text::same(s, b"disconnected") {
-        return Worded::State(DeviceState::Disconnected);
+        return Some(DeviceState::Disconnected);
     }
     if text::same(s, b"sleeping") {
-        return Worded::State(DeviceState::Sleeping);
+        return Some(DeviceState::Sleeping);
     }
     if text::same(s, b"lost") {
-        return Worded::State(DeviceState::Lost);
+        return Some(DeviceState::Lost);
     }
-    Worded::NoState
+    None
 }
 
 // The number of a state in memory.
+#[tactic(auto, unfolding(crate::specs::States::code_of))]
 pub fn state_code(s: DeviceState) -> u8
     ensures { result ≡ code_of s }
 {
-    match s {
-        DeviceState::Init => 0,
-        DeviceState::Ready => 1,
-        DeviceState::Disconnected => 2,
-        DeviceState::Sleeping => 3,
-        DeviceState::Lost => 4,
-    }
+    s as u8
 }
 
 // The state of a number.
+// Kept by hand: `state_at` of specs/States.antt has a state for each number, the last for one past the last; `TryFrom` has an error there, and `From` would hold this `match` under another name.
+#[tactic(auto, unfolding(crate::specs::States::state_at))]
 pub fn state_at(code: u8) -> DeviceState
     ensures { result ≡ state_at code }
 {
-    if code == 0 {
-        return DeviceState::Init;
+    match code {
+        0 => DeviceState::Init,
+        1 => DeviceState::Ready,
+        2 => DeviceState::Disconnected,
+        3 => DeviceState::Sleeping,
+        _ => DeviceState::Lost,
     }
-    if code == 1 {
-        return DeviceState::Ready;
-    }
-    if code == 2 {
-        return DeviceState::Disconnected;
-    }
-    if code == 3 {
-        return DeviceState::Sleeping;
-    }
-    DeviceState::Lost
 }

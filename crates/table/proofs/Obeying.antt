@@ -1,14 +1,17 @@
 -- A message obeyed by one change, or refused.
+use Rattle.faults.specs.declared.Fault.{Fault}
+use Rattle.faults.specs.Faults.{fault_number}
+use Rattle.std.specs.Prelude.{Option, None, Some, Result, Ok, Err}
 use Prim.Native.Nat.{ℕ, ◌+◌, ◌≤◌, ◌<◌}
 use native.Mathlib.Omega.{arith}
 use mathlib.Core.Path.{◌≡◌, refl, sym, ap, ap₂, ◌∙◌, subst}
 use mathlib.Core.List.{List, []}
 use mathlib.Core.Bool.{Bool, true, false, false≢true}
-use mathlib.Core.Option.{Option, none, some}
 use lib.ListN.{length, get_or, take, drop, length-drop}
 use lib.Seq.{take_all}
-use Rattle.answer.specs.Answer.{Refusal, Answer, refused, gives, and_then, only, placed}
-use Rattle.faults.specs.declared.Told.TheVariants.{Nothing, At}
+use Rattle.answer.specs.Answer.{Refusal, Answer, refused, gives, and_then, placed}
+use Rattle.answer.specs.Refused.{refusal_of}
+use Rattle.answer.specs.declared.Refused.{Refused}
 use Rattle.topic.specs.Form.{Form}
 use Rattle.text.specs.Places.{bytes_at}
 use Rattle.text.specs.declared.Place.{Place}
@@ -41,7 +44,7 @@ use Rattle.lookup.proofs.Edits as edit
 use Rattle.lookup.proofs.Theorems.{left, took, device_at}
 use Rattle.verdict.specs.declared.Verdict.{Verdict}
 use Rattle.verdict.specs.declared.Verdict.TheVariants as verdict
-use Rattle.verdict.specs.Verdict.{sent, makes, Verdicts, obeyed}
+use Rattle.verdict.specs.Verdict.{sent, makes, made, Verdicts, obeyed}
 use Rattle.device.specs.Decode.{device_of}
 use Rattle.device.specs.Meaning.{lane_number}
 use Rattle.patch.specs.Makes.{Makes, LaneMakes, held_since}
@@ -54,7 +57,7 @@ use Rattle.table.specs.Parts.{Obeys, Carries, Fills, Creates, Describes, Patches
 
 -- "Every message taken becomes the last time"
 abbrev since : ℕ → List Device → Table
-since time ds = record { devices = ds; last = some time }
+since time ds = record { devices = ds; last = Some time }
 
 module _ (domain : List ℕ) (d : ℕ) (t : Table) (x : Message) where
   again : (a : Answer Form) → and_then a (λ f. and_then (obey d x t.devices f) (λ ds. gives (since x.time ds))) ≡ and_then (and_then a (λ f. obey d x t.devices f)) (λ ds. gives (since x.time ds))
@@ -82,7 +85,7 @@ refuses m x n s e = left (message x) m (refused n) s (rw (refused_as (opening_of
 
 -- ---- a change
 
-module _ (m : List ℕ) (from to n offset : ℕ) (bytes : List ℕ) (time : ℕ) (m' head : List ℕ) (r : Bool) (k : Committed m (change_of from to offset bytes head) m' r) (count : get_or head 0 0 ≡ n) (last : last_of head ≡ some time) where
+module _ (m : List ℕ) (from to n offset : ℕ) (bytes : List ℕ) (time : ℕ) (m' head : List ℕ) (r : Bool) (k : Committed m (change_of from to offset bytes head) m' r) (count : get_or head 0 0 ≡ n) (last : last_of head ≡ Some time) where
   pub wrote : r ≡ true → Writes m from to n offset bytes time m' (gives taken)
   wrote t s ds b x e q =
       took m m' (change_of from to offset bytes head) x (since x.time ds) s (subst (Committed m (change_of from to offset bytes head) m') t k)
@@ -135,9 +138,9 @@ module _ (m : List ℕ) (rank offset : ℕ) (bytes : List ℕ) (time : ℕ) (m' 
   unfolding makes
   stated t i k topic retained payload s j = w s j.fits i (with_state t time) k (sent time topic retained payload) refl (sym j.says)
 
-  pub undescribed : offset + length bytes ≤ room_size → Makes offset bytes (with_description none) → Carries m time (verdict.Undescribe rank) m' o
+  pub undescribed : offset + length bytes ≤ room_size → Makes offset bytes (with_description None) → Carries m time (verdict.Undescribe rank) m' o
   unfolding makes
-  undescribed i k topic retained payload s j = w s j.fits i (with_description none) k (sent time topic retained payload) refl (sym j.says)
+  undescribed i k topic retained payload s j = w s j.fits i (with_description None) k (sent time topic retained payload) refl (sym j.says)
 
   pub filled : (i : ℕ) (kind : LaneKind) (payload : List ℕ) → offset ≡ lane_at i (lane_number kind) → length bytes ≡ lane_size → LaneMakes bytes (held_since time (take payload_most payload)) → Fills m rank i kind payload time m' o
   unfolding makes held_since held_by
@@ -153,7 +156,7 @@ module _ (m : List ℕ) (rank : ℕ) (id payload : List ℕ) (time : ℕ) (d : D
   new y = gives (change_at rank (with_description y) (devices_in m))
 
   -- what the rules make of the devices, by the device that is there
-  by_device : (x : Message) (p : Place) (v : Device) → x.payload ≡ payload → id ≡ bytes_at x.topic p → at rank (devices_in m) ≡ gives v → Verdicts m x (verdict.Describe rank p)
+  by_device : (x : Message) (p : Place) (v : Device) → x.payload ≡ payload → id ≡ bytes_at x.topic p → at rank (devices_in m) ≡ gives v → Verdicts m x (Ok (verdict.Describe rank p))
       → obeyed (opening_of m).domain (opening_of m).devices (means m).now x ≡ and_then (redescribed id v.description payload) new
   unfolding makes and_then
   by_device x p v z q g j =
@@ -163,21 +166,21 @@ module _ (m : List ℕ) (rank : ℕ) (id payload : List ℕ) (time : ℕ) (d : D
 
   -- and by what the description is
   by-description : (x : Message) (p : Place) (v : Device) (a : Answer Described) → x.payload ≡ payload → id ≡ bytes_at x.topic p → at rank (devices_in m) ≡ gives v → describe id payload ≡ a
-      → Verdicts m x (verdict.Describe rank p) → obeyed (opening_of m).domain (opening_of m).devices (means m).now x ≡ and_then (and_then a (λ y. gives (some (republished (properties_of v.description) y)))) new
+      → Verdicts m x (Ok (verdict.Describe rank p)) → obeyed (opening_of m).domain (opening_of m).devices (means m).now x ≡ and_then (and_then a (λ y. gives (Some (republished (properties_of v.description) y)))) new
   unfolding redescribed
-  by-description x p v a z q g i j = by_device x p v z q g j ∙ ap (λ (b : Answer Described). and_then (and_then b (λ y. gives (some (republished (properties_of v.description) y)))) new) i
+  by-description x p v a z q g i j = by_device x p v z q g j ∙ ap (λ (b : Answer Described). and_then (and_then b (λ y. gives (Some (republished (properties_of v.description) y)))) new) i
 
   -- the device of the rank is what its room means
   there : (room : List ℕ) → room ≡ room_of (state m).now rank → rank < length (devices_in m) → at rank (devices_in m) ≡ gives (device_of room)
   there room r h = at_some rank (devices_in m) (device_of room) h ∙ ap gives (device_at m rank (device_of room) h ∙ ap device_of (sym r))
 
-  pub described-not : (place number : ℕ) → d.told ≡ At place number → Describes m rank id payload time m (refused (placed number place))
+  pub described-not : (x : Fault) → d.told ≡ Some x → Describes m rank id payload time m (refused (placed (fault_number x.kind) x.place))
   unfolding and_then
-  described-not place number f topic retained p q s j =
+  described-not y f topic retained p q s j =
       let x = sent time topic retained payload in
-      refuses m x (placed number place) s (by-description x p _ (refused (placed number place)) refl q (there (room_of (state m).now rank) refl j.fits) (declared.not_taken id payload d e f) j)
+      refuses m x (placed (fault_number y.kind) y.place) s (by-description x p _ (refused (placed (fault_number y.kind) y.place)) refl q (there (room_of (state m).now rank) refl j.fits) (declared.not_taken id payload d e f) j)
 
-  pub described : d.told ≡ Nothing → (image : List ℕ) → length image ≡ room_size → Imprinted payload d image
+  pub described : d.told ≡ None → (image : List ℕ) → length image ≡ room_size → Imprinted payload d image
       → (room image' : List ℕ) → room ≡ room_of (state m).now rank → HandedOver image room image' → (m' : List ℕ) (o : Answer Value)
       → (n : ℕ) → Patches m rank described_at (take n (drop described_at image')) time m' o → length image' ≤ n + described_at → Describes m rank id payload time m' o
   unfolding and_then
@@ -186,16 +189,15 @@ module _ (m : List ℕ) (rank : ℕ) (id payload : List ℕ) (time : ℕ) (d : D
       let x = sent time topic retained payload in
       let y = described_in payload (ws payload 0) in
       let g = declared.taken id payload d e t in
-      u s j.fits (omega (arith, h.long, length-drop described_at image')) (with_description (some (republished (properties_of (device_of room).description) y)))
+      u s j.fits (omega (arith, h.long, length-drop described_at image')) (with_description (Some (republished (properties_of (device_of room).description) y)))
       (handover.makes image l room image' h y (imprint.makes id payload image d y e g k)) x refl
       (by-description x p (device_of room) (gives y) refl q (there room r j.fits) g j)
 
 -- ---- the verdict on a message
 
-module _ (m : List ℕ) (x : Message) (v : Verdict) (s : Sound m) (j : Verdicts m x v) where
-  pub carried : (m' : List ℕ) (o : Answer Value) (w : Verdict) → v ≡ w → Obeys m x w m' o → Did (message x) m m' o
-  carried m' o w e h = h s (subst (Verdicts m x) e j)
+module _ (m : List ℕ) (x : Message) (v : Result Verdict Refused) (s : Sound m) (j : Verdicts m x v) where
+  pub carried : (m' : List ℕ) (o : Answer Value) (u w : Verdict) → v ≡ Ok u → u ≡ w → Obeys m x w m' o → Did (message x) m m' o
+  carried m' o u w e q h = h s (subst (Verdicts m x) (e ∙ ap Ok q) j)
 
-  pub not_carried : (n : ℕ) → v ≡ verdict.Refused n → Did (message x) m m (refused (only n))
-  unfolding makes
-  not_carried n e = refuses m x (only n) s (sym j.says ∙ ap (makes x (devices_in m)) e)
+  pub not_carried : (r : Refused) → v ≡ Err r → Did (message x) m m (refused (refusal_of r))
+  not_carried r e = refuses m x (refusal_of r) s (sym j.says ∙ ap (made x (devices_in m)) e)

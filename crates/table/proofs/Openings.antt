@@ -1,26 +1,22 @@
 -- The domain read as an ID.
-use Prim.Native.Nat.{ℕ, ◌-◌, ◌≤◌}
-use native.Mathlib.Omega.{arith}
-use mathlib.Core.Path.{◌≡◌, sym, ap, ◌∙◌}
+use Prim.Native.Nat.{ℕ, ◌≤◌}
+use mathlib.Core.Path.{◌≡◌, ap, ◌∙◌}
 use mathlib.Core.List.{List}
-use mathlib.Core.Bool.{true, false}
-use lib.ListN.{length, take, replicate, length-append}
-use Rattle.text.specs.Ids.{is_id, id_of, id_bytes, read_id}
-use Rattle.text.specs.declared.IdRead.{IdRead}
-use Rattle.text.proofs.Ids.{read_ok, read-id, id_bytes-id_of}
+use mathlib.Core.Bool.{true}
+use lib.ListN.{take}
+use Rattle.std.specs.Prelude.{Some}
+use Rattle.text.specs.Ids.{is_id, id_bytes, id_of, read_id}
+use Rattle.text.specs.declared.Id.{Id}
+use Rattle.text.proofs.Ids.{read_some, read_few, id_bytes-id_of}
 
-module _ (domain : List ℕ) (r : IdRead) (e : r ≡ read_id domain) where
-  pub read_no : r.ok ≡ false → is_id domain ≡ false
-  read_no f = sym (read_ok domain r e) ∙ f
+module _ (domain : List ℕ) (i : Id) (e : Some i ≡ read_id domain) where
+  pub read_yes : is_id domain ≡ true
+  read_yes = (read_some domain i e).0
 
-  pub read_yes : r.ok ≡ true → is_id domain ≡ true
-  read_yes t = sym (read_ok domain r e) ∙ t
+  pub bytes_are : take i.len i.bytes ≡ domain
+  unfolding id_bytes
+  bytes_are = ap id_bytes (read_some domain i e).1 ∙ id_bytes-id_of domain
 
-  module _ (t : r.ok ≡ true) where
-    pub bytes_are : take r.id.len r.id.bytes ≡ domain
-    unfolding id_bytes
-    bytes_are = ap id_bytes (read-id domain r e (read_yes t)) ∙ id_bytes-id_of domain
-
-    pub inside : r.id.len ≤ length r.id.bytes
-    unfolding id_of
-    inside = rw (read-id domain r e (read_yes t)) (omega (arith, length-append domain (replicate (32 - length domain) 0)))
+  pub inside : i.len ≤ 32
+  unfolding id_of
+  inside = rw (read_some domain i e).1 (read_few domain read_yes)

@@ -1,7 +1,6 @@
 -- What the contracts of private functions cite. No promise rests on it. From the top: the verdict on a message (crate verdict) is carried out by a function
 -- of its own, that function writes over a device's room or changes another room, and the journal commits the change.
-use Rattle.std.specs.Prelude.{ℕ, ◌+◌, ◌≤◌, ◌<◌, ◌≡◌, List, Bool, length, get_or}
-use Rattle.std.proofs.Math.Option.{some}
+use Rattle.std.specs.Prelude.{ℕ, ◌+◌, ◌≤◌, ◌<◌, ◌≡◌, List, Bool, length, get_or, Some, Ok}
 use Rattle.answer.specs.Answer.{Answer, gives}
 use Rattle.text.specs.Places.{bytes_at}
 use Rattle.text.specs.declared.Place.{Place}
@@ -26,7 +25,7 @@ use Rattle.patch.specs.Makes.{Makes}
 
 -- where this is the verdict on the message, the call keeps its promise
 abbrev pub Obeys : (m : List ℕ) → Message → Verdict → (m' : List ℕ) → Answer Value → Type 0
-Obeys m x v m' a = Sound m → Verdicts m x v → Did (message x) m m' a
+Obeys m x v m' a = Sound m → Verdicts m x (Ok v) → Did (message x) m m' a
 
 -- for every message of this time
 abbrev pub Carries : (m : List ℕ) → (time : ℕ) → Verdict → (m' : List ℕ) → Answer Value → Type 0
@@ -60,10 +59,10 @@ Patches m rank offset bytes time m' a =
 -- a change that the journal can commit, and that makes these devices and this last time
 pub record Edits (m : List ℕ) (c : Change) (time : ℕ) (ds : List Device) : Type 0 where
   pub able : AbleTo m c
-  pub table : table_of (change c (state m).now) ≡ record { devices = ds; last = some time }
+  pub table : table_of (change c (state m).now) ≡ record { devices = ds; last = Some time }
 
 -- a change of any room, committed with a head that has n devices and this time: any devices that it makes with such a head
 abbrev pub Writes : (m : List ℕ) → (from to n offset : ℕ) → (bytes : List ℕ) → (time : ℕ) → (m' : List ℕ) → Answer Value → Type 0
 Writes m from to n offset bytes time m' a =
     Sound m → (ds : List Device) →
-    ((head : List ℕ) → get_or head 0 0 ≡ n → last_of head ≡ some time → Edits m (change_of from to offset bytes head) time ds) → Stores m time ds m' a
+    ((head : List ℕ) → get_or head 0 0 ≡ n → last_of head ≡ Some time → Edits m (change_of from to offset bytes head) time ds) → Stores m time ds m' a

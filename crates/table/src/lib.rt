@@ -8,51 +8,77 @@ ghost use Rattle.table.specs.Outcome.{said, offer};
 
 mod writing;
 
+use answer::Refused;
+use faults::Fault;
 use verdict::Verdict;
 use writing::{create, describe, fill, keep, remove, set_state, undescribe};
 
-// Taken, or the refusal's number; of a description that is not valid, the number and the byte place.
-#[derive(Clone, Copy)]
-pub enum Outcome {
-    Taken,
-    Refused(u8),
-    Faulty(u8, usize),
+// Why a call is refused: a refusal, or a fault of a description, at its place.
+#[derive(Clone, Copy, PartialEq, Eq)]
+pub enum Error {
+    Refused(Refused),
+    Faulty(Fault),
 }
 
-// The steps on offer, or the refusal's number.
-#[derive(Clone, Copy)]
-pub enum Offer {
-    Steps(u8),
-    Refused(u8),
+impl From<Refused> for Error {
+    ghost use Rattle.std.specs.Prelude.{◌≡◌};
+    ghost use Rattle.table.specs.declared.Error.{Error};
+
+    ghost from_gives = { λ r e. e ≡ Error.Refused r };
+
+    fn from(refused: Refused) -> Error {
+        Error::Refused(refused)
+    }
+}
+
+impl From<Fault> for Error {
+    ghost use Rattle.std.specs.Prelude.{◌≡◌};
+    ghost use Rattle.table.specs.declared.Error.{Error};
+
+    ghost from_gives = { λ f e. e ≡ Error.Faulty f };
+
+    fn from(fault: Fault) -> Error {
+        Error::Faulty(fault)
+    }
 }
 
 // Opens memory for a domain, at most d devices and j steps back. Refused: 5.
-pub fn open(mem: &mut [u8], domain: &[u8], d: usize, j: usize) -> Outcome
+pub fn open(mem: &mut [u8], domain: &[u8], d: usize, j: usize) -> Result<(), Error>
     ensures { Opened mem.old domain.now d j mem.new (said result) }
 {
-    let read = text::Id::read(domain);
-    if !read.ok {
-        return Outcome::Refused(5);
+    let Some(id) = text::Id::read(domain) else {
+        return Err(Error::Refused(Refused::BadOpening));
+    };
+    if !journal::open(mem, &id.bytes[..id.len], d, j) {
+        return Err(Error::Refused(Refused::BadOpening));
     }
-    let id = read.id;
-    let n = id.len;
-    let bytes = id.bytes;
-    if !journal::open(mem, &bytes[..n], d, j) {
-        return Outcome::Refused(5);
-    }
-    Outcome::Taken
+    Ok(())
 }
 
 // Sends a finished message. Refused: 6 where memory is not sound, then 7 to 17 in the paper's order, and 21 to 25 for a description.
-pub fn message(mem: &mut [u8], time: u64, topic: &[u8], retained: bool, payload: &[u8]) -> Outcome
+// Kept by hand: the four parts apart, as `homie5_message`, `replay` and `calls` have them; the judge takes them as one.
+pub fn message(
+    mem: &mut [u8],
+    time: u64,
+    topic: &[u8],
+    retained: bool,
+    payload: &[u8],
+) -> Result<(), Error>
     ensures { Did (message (sent time topic.now retained payload.now)) mem.old mem.new (said result) }
 {
     if !lookup::sound(mem) {
-        return Outcome::Refused(6);
+        return Err(Error::Refused(Refused::NotSound));
     }
-    let v = verdict::judge(mem, time, topic, retained, payload);
+    let v = verdict::judge(
+        mem,
+        verdict::Message {
+            time,
+            topic,
+            retained,
+            payload,
+        },
+    )?;
     match v {
-        Verdict::Refused(n) => Outcome::Refused(n),
         Verdict::Time => keep(mem, time),
         Verdict::Remove { rank } => remove(mem, rank, time),
         Verdict::State { rank, state: s } => set_state(mem, rank, s, time),
@@ -74,24 +100,24 @@ pub fn message(mem: &mut [u8], time: u64, topic: &[u8], retained: bool, payload:
 }
 
 // Takes the last message back. Refused: 6 where memory is not sound, then 18 where no step is on offer.
-pub fn step_back(mem: &mut [u8]) -> Outcome
+pub fn step_back(mem: &mut [u8]) -> Result<(), Error>
     ensures { Did step_back mem.old mem.new (said result) }
 {
     if !lookup::sound(mem) {
-        return Outcome::Refused(6);
+        return Err(Error::Refused(Refused::NotSound));
     }
     if !journal::undo(mem) {
-        return Outcome::Refused(18);
+        return Err(Error::Refused(Refused::NoStep));
     }
-    Outcome::Taken
+    Ok(())
 }
 
 // How many steps back are on offer. Refused: 6 where memory is not sound.
-pub fn steps(mem: &[u8]) -> Offer
+pub fn steps(mem: &[u8]) -> Result<u8, Refused>
     ensures { Did steps mem.now mem.now (offer result) }
 {
     if !lookup::sound(mem) {
-        return Offer::Refused(6);
+        return Err(Refused::NotSound);
     }
-    Offer::Steps(memory::byte(mem, memory::STEPS))
+    Ok(memory::byte(mem, memory::STEPS))
 }

@@ -3,25 +3,39 @@ ghost use Rattle.table.specs.Outcome.{said};
 ghost use Rattle.verdict.specs.declared.Verdict.TheVariants.{Time, Remove, State, Undescribe};
 ghost use Rattle.table.specs.Parts.{Carries, Fills, Creates, Describes, Patches, Writes};
 
-use crate::Outcome;
+use crate::Error;
+use answer::Refused;
 use device::{DESCRIBED, STATE};
-use faults::Told;
 use rules::{DeviceState, LaneKind};
 
 // A change, with the number of devices and the last time after it.
-fn write(mem: &mut [u8], from: u8, to: u8, n: u8, offset: usize, bytes: &[u8], time: u64) -> Outcome
+fn write(
+    mem: &mut [u8],
+    from: u8,
+    to: u8,
+    n: u8,
+    offset: usize,
+    bytes: &[u8],
+    time: u64,
+) -> Result<(), Error>
     ensures { Writes mem.old from to n offset bytes.now time mem.new (said result) }
 {
     let head = lookup::head(n, time);
     if !journal::commit(mem, from, to, offset, bytes, &head) {
         // never in sound memory
-        return Outcome::Refused(6);
+        return Err(Error::Refused(Refused::NotSound));
     }
-    Outcome::Taken
+    Ok(())
 }
 
 // Bytes over those of a device's room.
-pub(crate) fn patch(mem: &mut [u8], rank: u8, offset: usize, bytes: &[u8], time: u64) -> Outcome
+pub(crate) fn patch(
+    mem: &mut [u8],
+    rank: u8,
+    offset: usize,
+    bytes: &[u8],
+    time: u64,
+) -> Result<(), Error>
     ensures { Patches mem.old rank offset bytes.now time mem.new (said result) }
 {
     let n = lookup::count(mem);
@@ -29,48 +43,52 @@ pub(crate) fn patch(mem: &mut [u8], rank: u8, offset: usize, bytes: &[u8], time:
 }
 
 // The time alone.
-pub(crate) fn keep(mem: &mut [u8], time: u64) -> Outcome
+pub(crate) fn keep(mem: &mut [u8], time: u64) -> Result<(), Error>
     ensures { Carries mem.old time Time mem.new (said result) }
 {
     let n = lookup::count(mem);
-    let bytes = [0u8; 0];
-    write(mem, 0, 0, n, 0, &bytes, time)
+    write(mem, 0, 0, n, 0, b"", time)
 }
 
 // "empty payload removes it and frees its room for any other"
-pub(crate) fn remove(mem: &mut [u8], rank: u8, time: u64) -> Outcome
+pub(crate) fn remove(mem: &mut [u8], rank: u8, time: u64) -> Result<(), Error>
     ensures { Carries mem.old time (Remove rank) mem.new (said result) }
 {
     let n = lookup::count(mem);
     if n == 0 {
         // never in sound memory: the device is there
-        return Outcome::Refused(6);
+        return Err(Error::Refused(Refused::NotSound));
     }
     let last = n - 1;
-    let bytes = [0u8; 0];
-    write(mem, rank, last, last, 0, &bytes, time)
+    write(mem, rank, last, last, 0, b"", time)
 }
 
-pub(crate) fn set_state(mem: &mut [u8], rank: u8, s: DeviceState, time: u64) -> Outcome
+pub(crate) fn set_state(mem: &mut [u8], rank: u8, s: DeviceState, time: u64) -> Result<(), Error>
     ensures { Carries mem.old time (State rank s) mem.new (said result) }
 {
     let bytes = patch::state(s, time);
     patch(mem, rank, STATE, &bytes, time)
 }
 
-pub(crate) fn create(mem: &mut [u8], rank: u8, id: &[u8], s: DeviceState, time: u64) -> Outcome
+pub(crate) fn create(
+    mem: &mut [u8],
+    rank: u8,
+    id: &[u8],
+    s: DeviceState,
+    time: u64,
+) -> Result<(), Error>
     ensures { Creates mem.old rank id.now s time mem.new (said result) }
 {
     let n = lookup::count(mem);
     if n == 255 {
         // never in sound memory
-        return Outcome::Refused(6);
+        return Err(Error::Refused(Refused::NotSound));
     }
     let bytes = patch::new_device(id, s, time);
     write(mem, n, rank, n + 1, 0, &bytes, time)
 }
 
-pub(crate) fn undescribe(mem: &mut [u8], rank: u8, time: u64) -> Outcome
+pub(crate) fn undescribe(mem: &mut [u8], rank: u8, time: u64) -> Result<(), Error>
     ensures { Carries mem.old time (Undescribe rank) mem.new (said result) }
 {
     let bytes = patch::no_description();
@@ -84,7 +102,7 @@ pub(crate) fn fill(
     kind: LaneKind,
     payload: &[u8],
     time: u64,
-) -> Outcome
+) -> Result<(), Error>
     ensures { Fills mem.old rank property kind payload.now time mem.new (said result) }
 {
     let bytes = patch::lane(time, payload);
@@ -93,13 +111,18 @@ pub(crate) fn fill(
 }
 
 // "description: replaces what the device has", but for the lanes that its room hands on. Refused: what is told of it.
-pub(crate) fn describe(mem: &mut [u8], rank: u8, id: &[u8], payload: &[u8], time: u64) -> Outcome
+pub(crate) fn describe(
+    mem: &mut [u8],
+    rank: u8,
+    id: &[u8],
+    payload: &[u8],
+    time: u64,
+) -> Result<(), Error>
     ensures { Describes mem.old rank id.now payload.now time mem.new (said result) }
 {
     let d = description::describe(id, payload);
-    let told = d.told;
-    if let Told::At(place, number) = told {
-        return Outcome::Faulty(number, place);
+    if let Some(fault) = d.told {
+        return Err(Error::Faulty(fault));
     }
     let mut image = imprint::description(payload, d);
     handover::hand_over(&mut image, lookup::room(mem, rank));

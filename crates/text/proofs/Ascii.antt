@@ -1,5 +1,5 @@
 -- ASCII in words: no byte has its highest bit where the word has none of them.
-use Prim.Native.Nat.{ℕ, zero, suc, ◌+◌, ◌*◌, ◌/◌, ◌%◌, ◌≤◌, ◌<◌}
+use Prim.Native.Nat.{ℕ, zero, suc, ◌+◌, ◌*◌, ◌/◌, ◌%◌, ◌≤◌, ◌<◌, min}
 use native.Mathlib.Nat.{div-add-mod', mod-lt}
 use native.Mathlib.Numerals.{add-one}
 use native.Mathlib.Omega.{arith}
@@ -38,10 +38,16 @@ unfoldable pub highs : ℕ → ℕ
 highs zero = 0
 highs (suc w) = highs w * 0x100 + 0x80
 
-pub ascii-word : (w : ℕ) (s : List ℕ) (i r : ℕ) → i + w ≤ length s → ((k : ℕ) → get_or s k 0 < 0x100) → r ≡ num w i s → bit_and r (highs w) ≡ 0 → Ascii s i (i + w)
+pub ascii-word : (w n : ℕ) (s : List ℕ) (i r : ℕ) → w ≤ n → i + w ≤ length s → ((k : ℕ) → get_or s k 0 < 0x100) → r ≡ num w i s → bit_and r (highs n) ≡ 0 → Ascii s i (i + w)
 unfolding highs
-ascii-word zero s i r h b q e = each_to (omega arith) (each_none i (omega arith))
-ascii-word (suc w) s i r h b q e =
+ascii-word zero n s i r l h b q e = each_to (omega arith) (each_none i (omega arith))
+ascii-word (suc w) zero s i r l h b q e = absurd (omega arith)
+ascii-word (suc w) (suc n) s i r l h b q e =
     let f : r ≡ num w (i + 1) s * 0x100 + get_or s i 0 = q ∙ ap (λ (n : ℕ). num n i s) (sym (add-one w)) ∙ omega (arith, num-step s i w (omega arith)) in
-    let x = bits-step (num w (i + 1) s) (highs w) (get_or s i 0) (b i) (ap (λ (n : ℕ). bit_and n (highs w * 0x100 + 0x80)) (sym f) ∙ e) in
-    each_then (each-one i (i + 1) refl (omega arith) x.1) (each_to (omega arith) (ascii-word w s (i + 1) (num w (i + 1) s) (omega arith) b refl x.0))
+    let x = bits-step (num w (i + 1) s) (highs n) (get_or s i 0) (b i) (ap (λ (m : ℕ). bit_and m (highs n * 0x100 + 0x80)) (sym f) ∙ e) in
+    each_then (each-one i (i + 1) refl (omega arith) x.1) (each_to (omega arith) (ascii-word w n s (i + 1) (num w (i + 1) s) (omega arith) (omega arith) b refl x.0))
+
+-- eight bytes' bits serve fewer bytes too
+pub ascii-block : (w : ℕ) (s : List ℕ) (i r : ℕ) → w ≤ 8 → i + w ≤ length s → ((k : ℕ) → get_or s k 0 < 0x100) → r ≡ num (min w 8) i s → bit_and r 0x8080808080808080 ≡ 0 → Ascii s i (i + w)
+unfolding highs
+ascii-block w s i r l h b q e = let m : min w 8 ≡ w = omega arith in ascii-word w 8 s i r l h b (rw m at q) e

@@ -1,5 +1,5 @@
 -- Equality and order of byte strings.
-use Prim.Native.Nat.{ℕ, suc, ◌+◌, ◌≤◌, ◌<◌}
+use Prim.Native.Nat.{ℕ, suc, ◌+◌, ◌≤◌, ◌<◌, min}
 use native.Mathlib.Numerals.{add-one}
 use native.Mathlib.Omega.{arith}
 use mathlib.Core.Path.{◌≡◌, refl, sym, ap, ◌∙◌}
@@ -11,7 +11,6 @@ use lib.Seq.{drop-cons}
 use borrow.Author.Tests.{leb-true, leb-false, eqb-true, lt-ltb, le-ltb, eq-eqb, ne_eqb}
 use Rattle.abnf.specs.Accepts.{in_range}
 use Rattle.text.specs.Bytes.{eq_bytes, less_bytes}
-use Rattle.text.specs.Parts.{Shorter}
 
 -- by cases of a test, with its equation
 pub both {ℓ} : {X : Type ℓ} (b : Bool) → (b ≡ true → X) → (b ≡ false → X) → X
@@ -110,9 +109,8 @@ module _ (a b : List ℕ) (i : ℕ) where
     less-next e = sym (less-step ∙ rw (le-ltb (get_or a i 0) (get_or b i 0) (omega arith), eq-eqb (get_or a i 0) (get_or b i 0) e))
 
 -- where the shorter has ended
-pub less_shorter : (a b : List ℕ) (n : ℕ) → Shorter a b n → ltb (length a) (length b) ≡ less_bytes (drop n a) (drop n b)
-less_shorter a b n s =
-    let l = s.left in
+pub less_shorter : (a b : List ℕ) (n : ℕ) → n ≡ min (length a) (length b) → ltb (length a) (length b) ≡ less_bytes (drop n a) (drop n b)
+less_shorter a b n e =
     at_most (length b) n
     (λ h. le-ltb (length a) (length b) (omega arith) ∙ less-end a b n h)
-    (λ h. let g = s.ends h in lt-ltb (length a) (length b) (omega arith) ∙ less-short a b n g h)
+    (λ h. let g : length a ≤ n = omega arith in lt-ltb (length a) (length b) (omega arith) ∙ less-short a b n g h)

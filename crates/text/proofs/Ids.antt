@@ -3,16 +3,18 @@ use mathlib.Core.Path.{◌≡◌, refl, sym, ap, ◌∙◌}
 use mathlib.Core.List.{List, [], ◌∷◌, ◌++◌}
 use mathlib.Core.Bool.{Bool, true, false, ◌&&◌, ◌||◌, false≢true, or-false}
 use Prim.Native.Nat.{ℕ, zero, suc, ◌+◌, ◌-◌, ◌≤◌, ◌<◌}
-use native.Mathlib.Nat.{zero-add, sub-zero, zero-sub, suc-sub-suc}
-use native.Mathlib.Numerals.{add-one}
 use native.Mathlib.Omega.{arith}
 use lib.Dec.{leb, eqb}
-use lib.ListN.{length, take, drop, set, get_or, replicate, length-set}
-use lib.Seq.{paste-suc, take-length, take-append_seam}
+use lib.ListN.{length, take, drop, get_or, replicate, length-take}
+use lib.Seq.{take-append_seam}
 use borrow.Author.Tests.{le-leb, lt-leb, ne_eqb, leb-true}
 use Rattle.text.specs.Bytes.{every}
 use Rattle.text.specs.Ids.{id_byte, is_id, id_of, id_bytes, read_id}
-use Rattle.text.specs.declared.IdRead.{IdRead}
+use Rattle.text.specs.declared.Id.{Id}
+use Rattle.std.specs.List.{list_all}
+use Rattle.std.specs.Prelude.{Option, Some, None, unwrap_or, option_map}
+use Rattle.std.proofs.lemmas.Option.{none-some}
+use Rattle.std.proofs.lemmas.List.{drop-replicate}
 use Rattle.text.specs.Parts.{Decides, IdBytes}
 use Rattle.text.proofs.Bytes.{both, and_both}
 use Rattle.text.proofs.Each.{each-one}
@@ -87,6 +89,12 @@ module _ (s : List ℕ) where
       (λ e. absurd (d.no q (record { from = omega arith; to = omega arith; all = λ i g f. every_at id_byte s (sym (id_sized s h k) ∙ e) i f })))
       (λ e. q ∙ sym e))
 
+-- the library's test of all
+pub every_is : (p : ℕ → Bool) (s : List ℕ) → list_all p s ≡ every p s
+unfolding every
+every_is p [] = refl
+every_is p (b ∷ s) = ap (λ (t : Bool). p b && t) (every_is p s)
+
 -- what an ID has
 pub record IsId (s : List ℕ) : Type 0 where
   pub some : 0 < length s
@@ -103,62 +111,39 @@ is-id s e = both (leb 1 (length s))
 
 -- ---- the value
 
--- a store at i takes the copy of i elements to the copy of i + 1
-pub pad-step : (d s : List ℕ) (i : ℕ) → i < length s → i < length d → set (take i s ++ drop i d) i (get_or s i 0) ≡ take (i + 1) s ++ drop (i + 1) d
-pad-step d s i h k = simp (zero-add, ← add-one) at (paste-suc d 0 s i 0 (rw zero-add k) h)
-
--- zeros, short of the first i
-zeros-drop : (n i : ℕ) → drop {A = ℕ} i (replicate n 0) ≡ replicate (n - i) 0
-zeros-drop n zero = rw sub-zero
-zeros-drop zero (suc i) = rw zero-sub
-zeros-drop (suc n) (suc i) = rw suc-sub-suc (zeros-drop n i)
-
-pub read_no : (s : List ℕ) → is_id s ≡ false → record { ok = false; id = record { bytes = replicate 32 0; len = 0 } } ≡ read_id s
-unfolding read_id id_of
+pub read_no : (s : List ℕ) → is_id s ≡ false → None ≡ read_id s
+unfolding read_id
 read_no s e = rw e
 
--- the first i bytes are copied
-pub record Copied (s d b : List ℕ) (i : ℕ) : Type 0 where
-  pub id : is_id s ≡ true
-  pub few : length s ≤ 32
-  pub fits : i ≤ length s
-  pub size : length b ≡ length d
-  pub copied : b ≡ take i s ++ drop i d
+pub read_yes : (s : List ℕ) → is_id s ≡ true → Some (id_of s) ≡ read_id s
+unfolding read_id
+read_yes s e = rw e
 
-pub copy_start : (s d : List ℕ) → is_id s ≡ true → Copied s d d 0
-copy_start s d e = record { id = e; few = (is-id s e).few; fits = omega arith; size = refl; copied = refl }
+-- the bytes of an ID are copied over the first of 32 zeros
+module _ (s : List ℕ) (e : is_id s ≡ true) where
+  pub read_few : length s ≤ 32
+  read_few = (is-id s e).few
 
-pub copy_step : (s d b : List ℕ) (i : ℕ) → Copied s d b i → i < length s → length d ≡ 32 → Copied s d (set b i (get_or s i 0)) (i + 1)
-copy_step s d b i p h k = record {
-  id = p.id;
-  few = p.few;
-  fits = omega arith;
-  size = length-set b i (get_or s i 0) ∙ p.size;
-  copied = ap (λ (l : List ℕ). set l i (get_or s i 0)) p.copied ∙ pad-step d s i h (omega (arith, p.few));
-}
+  pub read_whole : length (take {A = ℕ} (length s) (replicate 32 0)) ≡ length s
+  read_whole = rw length-take (omega (arith, read_few))
 
-pub read_yes : (s b : List ℕ) (i : ℕ) → Copied s (replicate 32 0) b i → length s ≤ i → record { ok = true; id = record { bytes = b; len = length s } } ≡ read_id s
-unfolding read_id id_of
-read_yes s b i p h =
-    let e : i ≡ length s = omega (arith, p.fits) in
-    let same : b ≡ s ++ replicate (32 - length s) 0 = p.copied ∙ rw (e, take-length, zeros-drop 32 (length s)) in
-    rw (p.id, same)
+  pub read_bytes : (b : List ℕ) → b ≡ s → Some (record { bytes = b ++ drop {A = ℕ} (length s) (replicate 32 0); len = length s }) ≡ read_id s
+  unfolding id_of
+  read_bytes b q = rw (q, drop-replicate {X = ℕ} (length s) 32 0) (read_yes s e)
 
 -- ---- what a caller makes of the answer
-module _ (s : List ℕ) (r : IdRead) (e : r ≡ read_id s) where
-  pub read_ok : r.ok ≡ is_id s
-  unfolding read_id
-  read_ok = both (is_id s)
-      (λ t. ap (λ (x : IdRead). x.ok) e ∙ rw t)
-      (λ t. ap (λ (x : IdRead). x.ok) e ∙ rw t)
+module _ (s : List ℕ) where
+  pub read_none : None ≡ read_id s → is_id s ≡ false
+  read_none e = both (is_id s) (λ t. absurd (none-some _ (e ∙ sym (read_yes s t)))) (λ f. f)
 
-  pub read-id : is_id s ≡ true → r.id ≡ id_of s
-  unfolding read_id
-  read-id t = ap (λ (x : IdRead). x.id) e ∙ rw t
+  pub read_some : (i : Id) → Some i ≡ read_id s → (is_id s ≡ true) × (i ≡ id_of s)
+  read_some i e = both (is_id s)
+      (λ t. (t, ap (λ (o : Option Id). unwrap_or o (id_of [])) (e ∙ sym (read_yes s t))))
+      (λ f. absurd (none-some _ (read_no s f ∙ sym e)))
 
 pub id_bytes-id_of : (s : List ℕ) → id_bytes (id_of s) ≡ s
 unfolding id_bytes id_of
 id_bytes-id_of s = take-append_seam s (replicate (32 - length s) 0)
 
-pub read_back : (s : List ℕ) → is_id s ≡ true → id_bytes (read_id s).id ≡ s
-read_back s e = ap id_bytes (read-id s (read_id s) refl e) ∙ id_bytes-id_of s
+pub read_back : (s : List ℕ) → is_id s ≡ true → option_map id_bytes (read_id s) ≡ Some s
+read_back s e = ap (option_map id_bytes) (sym (read_yes s e)) ∙ ap Some (id_bytes-id_of s)

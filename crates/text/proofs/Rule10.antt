@@ -1,33 +1,37 @@
 -- Rule 10: UTF-8 that begins with no byte order mark.
-use Prim.Native.Nat.{ℕ, ◌<◌, ◌≤◌}
-use native.Mathlib.Omega.{arith}
-use mathlib.Core.Path.{◌≡◌, sym, ap, ◌∙◌}
+use Prim.Native.Nat.{ℕ}
+use mathlib.Core.Path.{◌≡◌, refl, sym, ap, ◌∙◌}
 use mathlib.Core.Logic.{◌↔◌}
 use mathlib.Core.List.{List, [], ◌∷◌, ◌++◌}
-use mathlib.Core.Bool.{Bool, true, false, not, and-false, and-true, false≢true}
-use lib.ListN.{length, take, drop, length-take, take-append-drop}
+use mathlib.Core.Bool.{Bool, true, false, not, and-true, false≢true}
+use lib.ListN.{take, drop, take-append-drop}
+use lib.Dec.{eqb}
+use borrow.Author.Tests.{eq-eqb, ne_eqb, eqb-true, eqb-false}
+use Rattle.std.specs.Cmp.Lexicographic.{pointwise}
+use Rattle.std.specs.List.{starts_with}
 use Rattle.abnf.specs.Abnf.{◌∈◌}
 use Rattle.text.specs.Bytes.{eq_bytes}
 use Rattle.text.specs.Utf8.{UTF8-octets, is_utf8, starts_bom, is_text}
-use Rattle.text.proofs.Bytes.{both, and_both, eq-long, eq_bytes-true}
+use Rattle.text.proofs.Bytes.{both, and_both, eq_bytes-true}
 use Rattle.text.proofs.Utf8.{is_utf8_is}
 
-pub bom-short : (s : List ℕ) → length s < 3 → false ≡ starts_bom s
-unfolding starts_bom
-bom-short s h = sym (eq-long (take 3 s) (0xEF ∷ 0xBB ∷ 0xBF ∷ []) (λ e. omega (arith, take_short s)))
-  where
-    take_short : (s : List ℕ) → length (take 3 s) ≤ length s
-    take_short s = simp length-take (omega arith)
+eqb_sym : (x y : ℕ) → eqb x y ≡ eqb y x
+eqb_sym x y = both (eqb y x)
+    (λ e. eq-eqb x y (sym (eqb-true y x e)) ∙ sym e)
+    (λ e. ne_eqb x y (λ q. eqb-false y x e (sym q)) ∙ sym e)
 
-pub bom-whole : (r : Bool) (s : List ℕ) → r ≡ eq_bytes (take 3 s) (0xEF ∷ 0xBB ∷ 0xBF ∷ []) → r ≡ starts_bom s
+pointwise_eq : (a b : List ℕ) → pointwise eqb a b ≡ eq_bytes b a
+unfolding eq_bytes
+pointwise_eq [] [] = refl
+pointwise_eq [] (y ∷ b) = refl
+pointwise_eq (x ∷ a) [] = refl
+pointwise_eq (x ∷ a) (y ∷ b) = cc (eqb_sym x y, pointwise_eq a b)
+
+pub bom_is : (s : List ℕ) → starts_with eqb s (0xEF ∷ 0xBB ∷ 0xBF ∷ []) ≡ starts_bom s
 unfolding starts_bom
-bom-whole r s e = e
+bom_is s = pointwise_eq (0xEF ∷ 0xBB ∷ 0xBF ∷ []) (take 3 s)
 
 module _ (t : Bool) (s : List ℕ) (e : t ≡ starts_bom s) where
-  pub text_bom : t ≡ true → false ≡ is_text s
-  unfolding is_text
-  text_bom p = sym (rw (sym e ∙ p) (and-false (is_utf8 s)))
-
   pub text-utf8 : (r : Bool) → t ≡ false → r ≡ is_utf8 s → r ≡ is_text s
   unfolding is_text
   text-utf8 r p q = q ∙ sym (rw (sym e ∙ p) (and-true (is_utf8 s)))

@@ -5,12 +5,12 @@ use mathlib.Core.Logic.{◌↔◌}
 use mathlib.Core.List.{List, [], ◌∷◌, map}
 use mathlib.Core.Bool.{true, false}
 use lib.ListN.{length, drop, replicate}
+use Rattle.std.specs.Prelude.{Some, option_map}
 use Rattle.abnf.specs.Abnf.{◌∈◌}
 use Rattle.abnf.specs.Place.{Furthest, FirstBad}
 use Rattle.text.specs.Bytes.{eq_bytes, less_bytes, every, slice, Compared}
-use Rattle.text.specs.Split.{split, join_by, part_at, AllFree, Splits}
+use Rattle.text.specs.Split.{split, join_by, part_at, AllFree, Splits, found_part}
 use Rattle.text.specs.Scalars.{Encoding}
-use Rattle.text.specs.declared.Part.TheVariants.{Found}
 use Rattle.text.proofs.Bytes.{eq_bytes-true, eq_bytes_yes}
 use Rattle.text.proofs.Split.{is_part, split-more, split-last}
 use Rattle.text.specs.Ids.{id_byte, is_id, ID, id_bytes, read_id}
@@ -33,7 +33,7 @@ pub ids : (s : List ℕ) → (is_id s ≡ true) ↔ (s ∈ ID)
 ids = is_id_is
 
 -- the value read has the bytes it was read from
-pub read-gives : (s : List ℕ) → is_id s ≡ true → id_bytes (read_id s).id ≡ s
+pub read-gives : (s : List ℕ) → is_id s ≡ true → option_map id_bytes (read_id s) ≡ Some s
 read-gives = read_back
 
 -- 32 bytes, and 33; a capital letter; none
@@ -62,10 +62,10 @@ pub joining : (sep : ℕ) (p : List ℕ) (ps : List (List ℕ)) → AllFree sep 
 joining = split-join
 
 -- the part that starts at a place is the first of the parts from there on, and the others start at `next`; past the end there are no others
-pub next_part : (sep : ℕ) (t : List ℕ) (at s e n : ℕ) → Found s e n ≡ part_at sep t at → n ≤ length t → split sep (drop at t) ≡ slice t s e ∷ split sep (drop n t)
+pub next_part : (sep : ℕ) (t : List ℕ) (at s e n : ℕ) → found_part s e n ≡ part_at sep t at → n ≤ length t → split sep (drop at t) ≡ slice t s e ∷ split sep (drop n t)
 next_part sep t at s e n q = split-more sep t at s e n (is_part sep t at s e n q)
 
-pub last_part : (sep : ℕ) (t : List ℕ) (at s e n : ℕ) → Found s e n ≡ part_at sep t at → length t < n → split sep (drop at t) ≡ slice t s e ∷ []
+pub last_part : (sep : ℕ) (t : List ℕ) (at s e n : ℕ) → found_part s e n ≡ part_at sep t at → length t < n → split sep (drop at t) ≡ slice t s e ∷ []
 last_part sep t at s e n q = split-last sep t at s e n (is_part sep t at s e n q)
 
 -- ---- equality

@@ -14,6 +14,7 @@ use Rattle.abnf.specs.Place.{Viable, Furthest, FirstBad}
 use Rattle.abnf.proofs.Places.{one_place}
 use Rattle.text.specs.Utf8.{is_utf8}
 use Rattle.text.specs.Utf8Place.{Utf8, Due, due, ready, never, low, high, first, next, utf8_reach, utf8_place}
+use Rattle.std.specs.Prelude.{Some, None}
 use Rattle.text.specs.Parts.{utf8_from, Following}
 use Rattle.text.proofs.Bytes.{both, at_most}
 use Rattle.text.proofs.Steps.{low_e0, low_f0, low-other, high_ed, high_f4, high-other, first_1, first_tail, first_2, first_3, first_4, first-over, next-ready, next_low, next-high, next_in, never_ends}
@@ -181,33 +182,27 @@ utf8-first-bad s p n = (
 -- ---- a first byte
 
 module _ (b : ℕ) where
-  follow : (n : ℕ) → n ≤ 3 → first b ≡ due n (low b) (high b) → Following b n
-  follow n h e = record { begins = λ k. e; none = λ k. absurd (omega arith) }
-
-  follow-none : first b ≡ never → Following b 4
-  follow-none e = record { begins = λ k. absurd (omega arith); none = λ k. e }
-
   -- a second byte's whole range
   wide : (n : ℕ) → b < 0xE0 → due n 0x80 0xBF ≡ due n (low b) (high b)
   wide n h = rw (low-other b (λ e. omega arith) (λ e. omega arith), high-other b (λ e. omega arith) (λ e. omega arith))
 
-  pub follow_0 : b ≤ 0x7F → Following b 0
-  follow_0 k = follow 0 (omega arith) (first_1 b k ∙ wide 0 (omega arith))
+  pub follow_0 : b ≤ 0x7F → Following b (Some 0)
+  follow_0 k = (omega arith, first_1 b k ∙ wide 0 (omega arith))
 
-  pub follow-tail : 0x7F < b → b ≤ 0xC1 → Following b 4
-  follow-tail h k = follow-none (first_tail b h k)
+  pub follow-tail : 0x7F < b → b ≤ 0xC1 → Following b None
+  follow-tail h k = first_tail b h k
 
-  pub follow_1 : 0xC1 < b → b ≤ 0xDF → Following b 1
-  follow_1 h k = follow 1 (omega arith) (first_2 b h k ∙ wide 1 (omega arith))
+  pub follow_1 : 0xC1 < b → b ≤ 0xDF → Following b (Some 1)
+  follow_1 h k = (omega arith, first_2 b h k ∙ wide 1 (omega arith))
 
-  pub follow_2 : 0xDF < b → b ≤ 0xEF → Following b 2
-  follow_2 h k = follow 2 (omega arith) (first_3 b h k)
+  pub follow_2 : 0xDF < b → b ≤ 0xEF → Following b (Some 2)
+  follow_2 h k = (omega arith, first_3 b h k)
 
-  pub follow_3 : 0xEF < b → b ≤ 0xF4 → Following b 3
-  follow_3 h k = follow 3 (omega arith) (first_4 b h k)
+  pub follow_3 : 0xEF < b → b ≤ 0xF4 → Following b (Some 3)
+  follow_3 h k = (omega arith, first_4 b h k)
 
-  pub follow-over : 0xF4 < b → Following b 4
-  follow-over h = follow-none (first-over b h)
+  pub follow-over : 0xF4 < b → Following b None
+  follow-over h = first-over b h
 
 -- ---- the loop over the bytes has come to i
 
@@ -241,12 +236,12 @@ module _ {s : List ℕ} {n lo hi i : ℕ} (v : Reaching s (due n lo hi) i) where
         let z = v.same in
         omega arith
 
-    module _ (e : n ≡ 0) {m : ℕ} (f : Following (get_or s i 0) m) where
-      pub reaching-first : m ≤ 3 → {p q : ℕ} → p ≡ low (get_or s i 0) → q ≡ high (get_or s i 0) → Reaching s (due m p q) (i + 1)
-      reaching-first k {p} {q} a b = let r = ranges (get_or s i 0) in goes_on (due m p q) (next-ready (get_or s i 0) (due n lo hi) e ∙ f.begins k ∙ rw (a, b)) (omega (arith, a, b, r.1))
+    module _ (e : n ≡ 0) where
+      pub reaching-first : {m : ℕ} → Following (get_or s i 0) (Some m) → {p q : ℕ} → p ≡ low (get_or s i 0) → q ≡ high (get_or s i 0) → Reaching s (due m p q) (i + 1)
+      reaching-first {m} f {p} {q} a b = let r = ranges (get_or s i 0) in goes_on (due m p q) (next-ready (get_or s i 0) (due n lo hi) e ∙ f.1 ∙ rw (a, b)) (omega (arith, a, b, r.1))
 
-      pub reaching_no-first : 3 < m → i ≡ utf8_place s
-      reaching_no-first k = stops (next-ready (get_or s i 0) (due n lo hi) e ∙ f.none k)
+      pub reaching_no-first : Following (get_or s i 0) None → i ≡ utf8_place s
+      reaching_no-first f = stops (next-ready (get_or s i 0) (due n lo hi) e ∙ f)
 
     module _ (p : 0 < n) where
       pub reaching-low : get_or s i 0 < lo → i ≡ utf8_place s

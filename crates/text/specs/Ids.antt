@@ -1,10 +1,9 @@
 -- IDs, and what reading one answers.
-use Rattle.std.specs.Prelude.{ℕ, ◌-◌, List, [], ◌++◌, Bool, true, false, ◌&&◌, ◌||◌, cond, length, replicate, take, leb, eqb}
+use Rattle.std.specs.Prelude.{ℕ, ◌-◌, List, ◌++◌, Bool, ◌&&◌, ◌||◌, cond, length, replicate, take, leb, eqb, Option, Some, None}
 use Rattle.abnf.specs.Abnf.{Abnf, ◌–◌, ◌//◌, x, repeat}
 use Rattle.abnf.specs.Accepts.{in_range}
 use Rattle.text.specs.Bytes.{every}
 use Rattle.text.specs.declared.Id.{Id}
-use Rattle.text.specs.declared.IdRead.{IdRead}
 
 -- Paper 01, "Topics": "An ID is 1 to 32 bytes [..] of `a`-`z`, `0`-`9`, `-`; a hyphen may stand first or last [..]."
 abbrev pub id_most : ℕ
@@ -28,6 +27,6 @@ id_of s = record { bytes = s ++ replicate (id_most - length s) 0; len = length s
 unfoldable pub id_bytes : Id → List ℕ
 id_bytes i = take i.len i.bytes
 
--- reading answers whether there is an ID, and the ID; where there is none, the blank value
-unfoldable pub read_id : List ℕ → IdRead
-read_id s = cond (is_id s) (record { ok = true; id = id_of s }) (record { ok = false; id = id_of [] })
+-- reading answers the ID, where there is one
+unfoldable pub read_id : List ℕ → Option Id
+read_id s = cond (is_id s) (Some (id_of s)) None

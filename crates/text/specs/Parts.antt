@@ -1,9 +1,7 @@
 -- What private functions compute: tests of several bytes at once, and the UTF-8 check.
-use Rattle.std.specs.Prelude.{ℕ, ◌≤◌, ◌<◌, ◌≡◌, List, [], ◌∷◌, Bool, true, false, eqb, length, drop, get_or}
+use Rattle.std.specs.Prelude.{ℕ, ◌≤◌, ◌<◌, ◌≡◌, List, [], ◌∷◌, Bool, true, false, eqb, length, drop, get_or, Option, Some, None}
 use Rattle.text.specs.Ids.{id_byte}
 use Rattle.text.specs.Utf8Place.{Due, due, ready, never, low, high, first, next}
-use Rattle.text.specs.declared.CharacterEnd.{CharacterEnd}
-use Rattle.text.specs.declared.CharacterEnd.TheVariants.{At, Broken}
 
 -- a test that decides a fact
 pub record Decides (P : Type 0) (r : Bool) : Type 0 where
@@ -30,12 +28,6 @@ pub record AsciiRun (s : List ℕ) (at end : ℕ) : Type 0 where
   pub run : Ascii s at end
   pub stop : end < length s → 0x80 ≤ get_or s end 0
 
--- n is the length of the shorter
-pub record Shorter (a b : List ℕ) (n : ℕ) : Type 0 where
-  pub left : n ≤ length a
-  pub right : n ≤ length b
-  pub ends : n < length b → length a ≤ n
-
 -- ---- a byte at a time
 
 -- whether the bytes go on in UTF-8 to their end
@@ -43,10 +35,10 @@ unfoldable pub utf8_from : Due → List ℕ → Bool
 utf8_from d [] = eqb d.count 0
 utf8_from d (b ∷ s) = utf8_from (next d b) s
 
--- n bytes follow a first byte in its character; above 3, no character begins with it
-pub record Following (b n : ℕ) : Type 0 where
-  pub begins : n ≤ 3 → first b ≡ due n (low b) (high b)
-  pub none : 3 < n → first b ≡ never
+-- how many bytes follow a first byte in its character; none where no character begins with it
+abbrev pub Following : ℕ → Option ℕ → Type 0
+Following b (Some n) = (n ≤ 3) × (first b ≡ due n (low b) (high b))
+Following b None = first b ≡ never
 
 -- ---- a character at a time
 
@@ -69,6 +61,6 @@ pub record Passes (s : List ℕ) (at end : ℕ) : Type 0 where
   pub same : utf8_from ready (drop at s) ≡ utf8_from ready (drop end s)
 
 -- what reading a character answers: where it ends, or that no UTF-8 begins so
-abbrev pub Reads : List ℕ → ℕ → CharacterEnd → Type 0
-Reads s i (At e) = Passes s i e
-Reads s i Broken = utf8_from ready (drop i s) ≡ false
+abbrev pub Reads : List ℕ → ℕ → Option ℕ → Type 0
+Reads s i (Some e) = Passes s i e
+Reads s i None = utf8_from ready (drop i s) ≡ false

@@ -1,8 +1,7 @@
 -- The parts of a byte string between separators: levels of a topic, entries of a comma list.
-use Rattle.std.specs.Prelude.{ℕ, suc, ◌+◌, ◌≡◌, List, [], ◌∷◌, ◌++◌, Bool, true, cond, not, length, drop, leb, eqb}
+use Rattle.std.specs.Prelude.{ℕ, suc, ◌+◌, ◌≡◌, List, [], ◌∷◌, ◌++◌, Bool, true, cond, Option, Some, None, not, length, drop, leb, eqb}
 use Rattle.text.specs.Bytes.{every}
 use Rattle.text.specs.declared.Part.{Part}
-use Rattle.text.specs.declared.Part.TheVariants.{Found, Nothing}
 
 -- one more byte in front of the first part
 unfoldable pub onto : ℕ → List (List ℕ) → List (List ℕ)
@@ -41,6 +40,10 @@ unfoldable pub first_len : ℕ → List ℕ → ℕ
 first_len sep [] = 0
 first_len sep (b ∷ s) = cond (eqb b sep) 0 (suc (first_len sep s))
 
+-- a part that is there, by its places
+abbrev pub found_part : ℕ → ℕ → ℕ → Option Part
+found_part start end next = Some (record { start = start; end = end; next = next })
+
 -- the part that starts at a place, and where the next one would start; past the end there is none
-unfoldable pub part_at : ℕ → List ℕ → ℕ → Part
-part_at sep s at = cond (leb at (length s)) (Found at (at + first_len sep (drop at s)) (at + first_len sep (drop at s) + 1)) Nothing
+unfoldable pub part_at : ℕ → List ℕ → ℕ → Option Part
+part_at sep s at = cond (leb at (length s)) (found_part at (at + first_len sep (drop at s)) (at + first_len sep (drop at s) + 1)) None

@@ -1,10 +1,10 @@
 -- Tests one after another: where one fails the answer is no, else the next decides.
-use Prim.Native.Nat.{ℕ, ◌+◌, ◌<◌, ◌≤◌}
+use Prim.Native.Nat.{ℕ, ◌+◌}
 use native.Mathlib.Omega.{arith}
 use mathlib.Core.Path.{◌≡◌, sym, ap, ◌∙◌}
-use mathlib.Core.Bool.{Bool, true, false, not, ◌&&◌, ◌||◌, cond}
-use lib.Dec.{leb, eqb}
-use borrow.Author.Tests.{not-true, not-false, le-leb, lt-leb, eq-eqb, ne_eqb}
+use mathlib.Core.Bool.{Bool, true, false, not, ◌&&◌, cond}
+use lib.Dec.{eqb}
+use borrow.Author.Tests.{not-true, not-false, eq-eqb, ne_eqb}
 
 pub stop : {a : Bool} (b : Bool) → a ≡ false → false ≡ (a && b)
 stop b e = rw e
@@ -19,20 +19,8 @@ no {r} e t = sym e ∙ not-true r t
 pub yes : {r b : Bool} → r ≡ b → not r ≡ false → b ≡ true
 yes {r} e t = sym e ∙ not-false r t
 
-pub above : {r p : ℕ} (m : ℕ) → r ≡ p → m < r → leb p m ≡ false
-above {r} {p} m e h = lt-leb p m (omega arith)
-
-pub within : {r p : ℕ} (m : ℕ) → r ≡ p → r ≤ m → leb p m ≡ true
-within {r} {p} m e h = le-leb p m (omega arith)
-
 pub told : {r b v : Bool} → r ≡ b → r ≡ v → b ≡ v
 told e t = sym e ∙ t
-
-pub or_yes : {a : Bool} (b : Bool) → a ≡ true → true ≡ (a || b)
-or_yes b e = rw e
-
-pub or_no : {a b r : Bool} → a ≡ false → r ≡ b → r ≡ (a || b)
-or_no e f = rw e f
 
 pub cond_yes : {t a r : Bool} (b : Bool) → t ≡ true → r ≡ a → r ≡ cond t a b
 cond_yes b e f = rw e f

@@ -1,14 +1,16 @@
 -- Dates of the calendar.
-use Prim.Native.Nat.{ℕ, ◌+◌, ◌*◌, ◌%◌, ◌<◌, ◌≤◌, ◌∣◌}
+use Prim.Native.Nat.{ℕ, ◌+◌, ◌*◌, ◌%◌, ◌≤◌, ◌∣◌}
 use native.Mathlib.Nat.{mod-eq-zero_of_dvd, dvd_of_mod-eq-zero}
 use native.Mathlib.Omega.{arith}
 use mathlib.Core.Path.{◌≡◌, refl, sym, ◌∙◌}
 use mathlib.Core.Logic.{◌↔◌, ◌⊎◌, inl, inr}
-use mathlib.Core.Bool.{Bool, true, false, ◌&&◌, not, ◌||◌, cond, and-false, or-true}
-use lib.Dec.{leb, eqb}
-use borrow.Author.Tests.{le-leb, lt-leb, eq-eqb, ne_eqb, eqb-true, eqb-false}
+use mathlib.Core.Bool.{Bool, true, false, ◌&&◌, not, ◌||◌, cond, or-true}
+use lib.Dec.{eqb}
+use borrow.Author.Tests.{eq-eqb, ne_eqb, eqb-true, eqb-false}
 use Rattle.abnf.proofs.Accepts.{and_both}
 use Rattle.times.specs.Datetime.{is_leap, has_thirty_days, month_length, is_date}
+use Rattle.std.specs.Prelude.{List, Some, None}
+use Rattle.times.specs.Parts.{byte_at, pair_at, date_of, date_at}
 use Rattle.times.specs.Calendar.{LeapYear, Thirty}
 
 module _ (year month : ℕ) where
@@ -69,23 +71,25 @@ leap_years year = (λ e. leap_year year (pick (is_leap year) e), λ h. rw (is-le
     pick true e = refl
     pick false e = absurd (omega arith)
 
-module _ (year month day : ℕ) where
-  pub no_month : month < 1 → false ≡ is_date year month day
-  unfolding is_date
-  no_month h = rw (lt-leb 1 month h)
+-- the numbers that are there, or not
+module _ (s : List ℕ) where
+  pub no_century : None ≡ pair_at s 0 → false ≡ date_at s
+  unfolding date_at date_of
+  no_century e = rw (← e)
 
-  pub past_month : 12 < month → false ≡ is_date year month day
-  unfolding is_date
-  past_month h = rw (lt-leb month 12 h, and-false (leb 1 month))
+  pub no_year : {p : ℕ} → Some p ≡ pair_at s 0 → None ≡ pair_at s 2 → false ≡ date_at s
+  unfolding date_at date_of
+  no_year e f = rw (← e, ← f)
 
-  pub no_day : day < 1 → false ≡ is_date year month day
-  unfolding is_date
-  no_day h = rw (lt-leb 1 day h, and-false (leb 1 month && leb month 12))
+  module _ {p q : ℕ} (e : Some p ≡ pair_at s 0) (f : Some q ≡ pair_at s 2) where
+    pub no_month : None ≡ pair_at s 5 → false ≡ date_at s
+    unfolding date_at date_of
+    no_month g = rw (← e, ← f, ← g)
 
-  pub in_month : {n : ℕ} → 1 ≤ month → month ≤ 12 → 1 ≤ day → n ≡ month_length year month → leb day n ≡ is_date year month day
-  unfolding is_date
-  in_month h k l e = rw (le-leb 1 month h, le-leb month 12 k, le-leb 1 day l, e)
+    pub no_day : {m : ℕ} → Some m ≡ pair_at s 5 → None ≡ pair_at s 8 → false ≡ date_at s
+    unfolding date_at date_of
+    no_day g h = rw (← e, ← f, ← g, ← h)
 
--- from what was read to what stands there
-pub date-same : {r : Bool} {c y m d c' y' m' d' : ℕ} → r ≡ is_date (100 * c + y) m d → c ≡ c' → y ≡ y' → m ≡ m' → d ≡ d' → r ≡ is_date (100 * c' + y') m' d'
-date-same e p q u v = rw (← p, ← q, ← u, ← v) e
+    pub a_date : {m d : ℕ} → Some m ≡ pair_at s 5 → Some d ≡ pair_at s 8 → date_at s ≡ ((eqb (byte_at s 4) 45 && eqb (byte_at s 7) 45) && is_date (100 * p + q) m d)
+    unfolding date_at date_of
+    a_date g h = rw (← e, ← f, ← g, ← h)

@@ -8,15 +8,16 @@ use mathlib.Core.Bool.{Bool, true, false, not, ◌&&◌, ◌||◌, cond, and-fal
 use lib.ListN.{length, drop, take}
 use lib.Seq.{drop-cons}
 use lib.Dec.{leb, ltb, eqb, lit<}
-use borrow.Author.Tests.{leb-true, le-leb, lt-leb, ne_eqb, eqb-true, ltb-true, ltb-false}
+use borrow.Author.Tests.{leb-true, leb-false, le-leb, lt-leb, ne_eqb, eqb-true, ltb-true, ltb-false}
 use Rattle.abnf.specs.Abnf.{◌·◌, ◌//◌, x, opt, times, repeat}
 use Rattle.abnf.specs.Accepts.{in_range, is_empty, starts, accepts}
 use Rattle.abnf.proofs.Accepts.{and_both}
 use Rattle.abnf.proofs.Steps.{both, range-true, starts-x, starts_either, starts-opt, empty_at}
 use Rattle.times.specs.Datetime.{DIGIT, sixtieth, date, clock, fraction, zone, number_from, month_length, is_date, is_datetime}
-use Rattle.times.specs.Parts.{byte_at, pair_at, digits, is_clock, is_sign, date_at, time_at, zone_at, ending_at}
+use Rattle.times.specs.Parts.{byte_at, pair_at, at_most, digits, is_clock, is_sign, date_of, date_at, time_at, zone_at, ending_at}
 use Rattle.times.proofs.Bytes.{byte_past}
 use Rattle.times.proofs.Dates.{month-most}
+use Rattle.times.proofs.Pairs.{number_at, read_number, pair_is_number, at_most_is}
 use Rattle.times.proofs.Grammar.{pair-digits, starts-hour, starts-sixtieth, starts-pair}
 use Rattle.times.proofs.Runs.{starts-run}
 
@@ -30,11 +31,11 @@ starts-clock k s i =
     let three : i + 2 + 1 ≡ i + 3 = omega arith in
     let five : i + 3 + 2 ≡ i + 5 = omega arith in
     starts-hour (λ r. starts (x 58 · sixtieth) k r) s i
-    ∙ and_on (leb (pair_at s i) 23)
+    ∙ and_on (at_most 23 (pair_at s i))
     (starts-x (λ r. starts sixtieth k r) s (i + 2) 58 (lit< tt)
     ∙ and_on (eqb (byte_at s (i + 2)) 58)
-    (ap (λ (n : ℕ). starts sixtieth k (drop n s)) three ∙ starts-sixtieth k s (i + 3) ∙ ap (λ (n : ℕ). leb (pair_at s (i + 3)) 59 && k (drop n s)) five))
-    ∙ regroup (leb (pair_at s i) 23) (eqb (byte_at s (i + 2)) 58) (leb (pair_at s (i + 3)) 59) (k (drop (i + 5) s))
+    (ap (λ (n : ℕ). starts sixtieth k (drop n s)) three ∙ starts-sixtieth k s (i + 3) ∙ ap (λ (n : ℕ). at_most 59 (pair_at s (i + 3)) && k (drop n s)) five))
+    ∙ regroup (at_most 23 (pair_at s i)) (eqb (byte_at s (i + 2)) 58) (at_most 59 (pair_at s (i + 3))) (k (drop (i + 5) s))
   where
     regroup : (a b c d : Bool) → (a && (b && (c && d))) ≡ ((a && (b && c)) && d)
     regroup true true c d = refl
@@ -44,27 +45,27 @@ starts-clock k s i =
 -- `YYYY-MM-DD` by its bytes
 shape : List ℕ → Bool
 shape s =
-    leb (pair_at s 0) 99
-    && (leb (pair_at s 2) 99
+    at_most 99 (pair_at s 0)
+    && (at_most 99 (pair_at s 2)
     && (eqb (byte_at s 4) 45
-    && (leb (pair_at s 5) 99
+    && (at_most 99 (pair_at s 5)
     && (eqb (byte_at s 7) 45
-    && leb (pair_at s 8) 99))))
+    && at_most 99 (pair_at s 8)))))
 
 starts-date : (k : List ℕ → Bool) (s : List ℕ) → starts date k s ≡ (shape s && k (drop 10 s))
 unfolding starts shape
 starts-date k s =
     starts-pair (λ r. starts (DIGIT · DIGIT) (λ r. starts (x 45 · times 2 DIGIT · x 45 · times 2 DIGIT) k r) r) s 0
-    ∙ and_on (leb (pair_at s 0) 99)
+    ∙ and_on (at_most 99 (pair_at s 0))
     (starts-pair (λ r. starts (x 45 · times 2 DIGIT · x 45 · times 2 DIGIT) k r) s 2
-    ∙ and_on (leb (pair_at s 2) 99)
+    ∙ and_on (at_most 99 (pair_at s 2))
     (starts-x (λ r. starts (times 2 DIGIT · x 45 · times 2 DIGIT) k r) s 4 45 (lit< tt)
     ∙ and_on (eqb (byte_at s 4) 45)
     (starts-pair (λ r. starts (x 45 · times 2 DIGIT) k r) s 5
-    ∙ and_on (leb (pair_at s 5) 99)
+    ∙ and_on (at_most 99 (pair_at s 5))
     (starts-x (λ r. starts (times 2 DIGIT) k r) s 7 45 (lit< tt)
     ∙ and_on (eqb (byte_at s 7) 45) (starts-pair k s 8)))))
-    ∙ regroup (leb (pair_at s 0) 99) (leb (pair_at s 2) 99) (eqb (byte_at s 4) 45) (leb (pair_at s 5) 99) (eqb (byte_at s 7) 45) (leb (pair_at s 8) 99) (k (drop 10 s))
+    ∙ regroup (at_most 99 (pair_at s 0)) (at_most 99 (pair_at s 2)) (eqb (byte_at s 4) 45) (at_most 99 (pair_at s 5)) (eqb (byte_at s 7) 45) (at_most 99 (pair_at s 8)) (k (drop 10 s))
   where
     regroup : (a b c d e f g : Bool) → (a && (b && (c && (d && (e && (f && g)))))) ≡ ((a && (b && (c && (d && (e && f))))) && g)
     regroup false b c d e f g = refl
@@ -84,7 +85,7 @@ starts-time k s =
     ∙ and_on (is_clock s 11)
     (starts-x (λ r. starts sixtieth k r) s 16 58 (lit< tt)
     ∙ and_on (eqb (byte_at s 16) 58) (starts-sixtieth k s 17)))
-    ∙ regroup (eqb (byte_at s 10) 84) (is_clock s 11) (eqb (byte_at s 16) 58) (leb (pair_at s 17) 59) (k (drop 19 s))
+    ∙ regroup (eqb (byte_at s 10) 84) (is_clock s 11) (eqb (byte_at s 16) 58) (at_most 59 (pair_at s 17)) (k (drop 19 s))
   where
     regroup : (a b c d e : Bool) → (a && (b && (c && (d && e)))) ≡ ((a && (b && (c && d))) && e)
     regroup false b c d e = refl
@@ -153,29 +154,29 @@ starts-ending s =
     fit false z y h = refl
 
 -- the numbers of a date
-drop-two : (s : List ℕ) (i : ℕ) → leb (pair_at s i) 99 ≡ true → drop i s ≡ byte_at s i ∷ byte_at s (i + 1) ∷ drop (i + 2) s
+drop-two : (s : List ℕ) (i : ℕ) → at_most 99 (pair_at s i) ≡ true → drop i s ≡ byte_at s i ∷ byte_at s (i + 1) ∷ drop (i + 2) s
 drop-two s i e =
-    let d = pair-digits (byte_at s i) (byte_at s (i + 1)) 99 (lit< tt) e in
+    let d = pair-digits (byte_at s i) (byte_at s (i + 1)) 99 (lit< tt) (sym (at_most_is 99 s i (lit< tt)) ∙ e) in
     let l : i + 1 < length s = both (ltb (i + 1) (length s)) (λ q. ltb-true (i + 1) (length s) q) (λ q. absurd (omega (arith, byte_past s (i + 1) (ltb-false (i + 1) (length s) q)))) in
     let two : suc (i + 1) ≡ i + 2 = omega arith in
     drop-cons s i 256 (omega arith)
     ∙ ap (λ (n : ℕ). byte_at s i ∷ drop n s) (sym (add-one i))
     ∙ ap (λ (t : List ℕ). byte_at s i ∷ t) (drop-cons s (i + 1) 256 l ∙ ap (λ (n : ℕ). byte_at s (i + 1) ∷ drop n s) two)
 
-number-pair : (n : ℕ) (s : List ℕ) (i : ℕ) → leb (pair_at s i) 99 ≡ true → number_from n (take 2 (drop i s)) ≡ 100 * n + pair_at s i
+number-pair : (n : ℕ) (s : List ℕ) (i : ℕ) → at_most 99 (pair_at s i) ≡ true → number_from n (take 2 (drop i s)) ≡ 100 * n + number_at s i
 unfolding number_from
 number-pair n s i e =
-    let d = pair-digits (byte_at s i) (byte_at s (i + 1)) 99 (lit< tt) e in
+    let d = pair-digits (byte_at s i) (byte_at s (i + 1)) 99 (lit< tt) (sym (at_most_is 99 s i (lit< tt)) ∙ e) in
     rw (drop-two s i e) (omega arith)
 
-year-pairs : (s : List ℕ) → leb (pair_at s 0) 99 ≡ true → leb (pair_at s 2) 99 ≡ true → number_from 0 (take 4 s) ≡ 100 * pair_at s 0 + pair_at s 2
+year-pairs : (s : List ℕ) → at_most 99 (pair_at s 0) ≡ true → at_most 99 (pair_at s 2) ≡ true → number_from 0 (take 4 s) ≡ 100 * number_at s 0 + number_at s 2
 unfolding number_from
 year-pairs s e f =
-    let d = pair-digits (byte_at s 0) (byte_at s 1) 99 (lit< tt) e in
-    let n : 10 * (10 * 0 + (byte_at s 0 - 48)) + (byte_at s 1 - 48) ≡ pair_at s 0 = omega arith in
+    let d = pair-digits (byte_at s 0) (byte_at s 1) 99 (lit< tt) (sym (at_most_is 99 s 0 (lit< tt)) ∙ e) in
+    let n : 10 * (10 * 0 + (byte_at s 0 - 48)) + (byte_at s 1 - 48) ≡ number_at s 0 = omega arith in
     ap (λ (t : List ℕ). number_from 0 (take 4 t)) (drop-two s 0 e)
     ∙ ap (λ (n : ℕ). number_from n (take 2 (drop 2 s))) n
-    ∙ number-pair (pair_at s 0) s 2 f
+    ∙ number-pair (number_at s 0) s 2 f
 
 date_numbers : (year month day : ℕ) → is_date year month day ≡ true → (month ≤ 99) × (day ≤ 99)
 unfolding is_date
@@ -185,22 +186,48 @@ date_numbers year month day e =
     let d = leb-true day (month_length year month) (and_both (leb 1 day) (leb day (month_length year month)) p.1).1 in
     (omega arith, omega (arith, month-most year month))
 
+-- four numbers of two digits, and a date of the calendar
+date_of-numbers : (p q m d : ℕ) (t : Bool) → date_of (read_number p) (read_number q) (read_number m) (read_number d) t ≡ (leb p 99 && (leb q 99 && (t && is_date (100 * p + q) m d)))
+unfolding date_of read_number
+date_of-numbers p q m d t =
+    both (leb p 99)
+    (λ a. both (leb q 99)
+    (λ b. both (leb m 99)
+    (λ c. both (leb d 99) (λ e. rw (a, b, c, e)) (λ e. rw (a, b, c, e) (no_number (λ h. (date_numbers (100 * p + q) m d h).1) e)))
+    (λ c. rw (a, b, c) (no_number (λ h. (date_numbers (100 * p + q) m d h).0) c)))
+    (λ b. rw (a, b)))
+    (λ a. rw a)
+  where
+    no_number : {n : ℕ} {z : Bool} → (z ≡ true → n ≤ 99) → leb n 99 ≡ false → false ≡ (t && z)
+    no_number {n} {z} h e = both z (λ x. absurd (omega (arith, h x, leb-false n 99 e))) (λ x. rw (x, and-false t))
+
+date_at-numbers : (s : List ℕ) → date_at s ≡ (at_most 99 (pair_at s 0) && (at_most 99 (pair_at s 2) && ((eqb (byte_at s 4) 45 && eqb (byte_at s 7) 45) && is_date (100 * number_at s 0 + number_at s 2) (number_at s 5) (number_at s 8))))
+unfolding date_at
+date_at-numbers s =
+    let n : (i : ℕ) → pair_at s i ≡ read_number (number_at s i) = λ i. pair_is_number (byte_at s i) (byte_at s (i + 1)) in
+    cc (n 0, n 2, n 5, n 8)
+    ∙ date_of-numbers (number_at s 0) (number_at s 2) (number_at s 5) (number_at s 8) (eqb (byte_at s 4) 45 && eqb (byte_at s 7) 45)
+    ∙ cc (at_most_is 99 s 0 (lit< tt), at_most_is 99 s 2 (lit< tt))
+
 -- the code's date is the grammar's with the calendar
 date_reads : (s : List ℕ) → (shape s && is_date (number_from 0 (take 4 s)) (number_from 0 (take 2 (drop 5 s))) (number_from 0 (take 2 (drop 8 s)))) ≡ date_at s
-unfolding date_at shape
+unfolding shape
 date_reads s =
-    fit (leb (pair_at s 0) 99) (leb (pair_at s 2) 99) (eqb (byte_at s 4) 45) (leb (pair_at s 5) 99) (eqb (byte_at s 7) 45) (leb (pair_at s 8) 99) _ _
+    fit (at_most 99 (pair_at s 0)) (at_most 99 (pair_at s 2)) (eqb (byte_at s 4) 45) (at_most 99 (pair_at s 5)) (eqb (byte_at s 7) 45) (at_most 99 (pair_at s 8)) _ _
     (λ a b c d.
     let y = year-pairs s a b in
     let m = number-pair 0 s 5 c in
     let n = number-pair 0 s 8 d in
-    let m' : number_from 0 (take 2 (drop 5 s)) ≡ pair_at s 5 = omega arith in
-    let n' : number_from 0 (take 2 (drop 8 s)) ≡ pair_at s 8 = omega arith in
+    let m' : number_from 0 (take 2 (drop 5 s)) ≡ number_at s 5 = omega arith in
+    let n' : number_from 0 (take 2 (drop 8 s)) ≡ number_at s 8 = omega arith in
     rw (y, m', n'))
-    (λ e. let h = date_numbers (100 * pair_at s 0 + pair_at s 2) (pair_at s 5) (pair_at s 8) e in (le-leb (pair_at s 5) 99 h.0, le-leb (pair_at s 8) 99 h.1))
+    (λ e.
+    let h = date_numbers (100 * number_at s 0 + number_at s 2) (number_at s 5) (number_at s 8) e in
+    (at_most_is 99 s 5 (lit< tt) ∙ le-leb (number_at s 5) 99 h.0, at_most_is 99 s 8 (lit< tt) ∙ le-leb (number_at s 8) 99 h.1))
+    ∙ sym (date_at-numbers s)
   where
     fit : (a b c d e f q r : Bool) → (a ≡ true → b ≡ true → d ≡ true → f ≡ true → q ≡ r) → (r ≡ true → (d ≡ true) × (f ≡ true))
-        → ((a && (b && (c && (d && (e && f))))) && q) ≡ (a && (b && (c && (e && r))))
+        → ((a && (b && (c && (d && (e && f))))) && q) ≡ (a && (b && ((c && e) && r)))
     fit false b c d e f q r g h = refl
     fit true false c d e f q r g h = refl
     fit true true false d e f q r g h = refl

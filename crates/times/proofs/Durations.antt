@@ -6,7 +6,7 @@ use mathlib.Core.List.{List}
 use mathlib.Core.Bool.{Bool, true, false, not, ◌&&◌, ◌||◌, and-false, or-false}
 use lib.ListN.{length, drop}
 use lib.Dec.{leb, eqb, lit<}
-use borrow.Author.Tests.{leb-true, eq-eqb, ne_eqb, eqb-true}
+use borrow.Author.Tests.{leb-true, ne_eqb, eqb-true}
 use Rattle.abnf.specs.Abnf.{◌·◌, ◌//◌, x, opt}
 use Rattle.abnf.specs.Accepts.{is_empty, starts}
 use Rattle.abnf.proofs.Accepts.{and_both}
@@ -167,11 +167,7 @@ duration_reads s =
 
 -- the code's three places
 module _ (s : List ℕ) {h m e : ℕ} (p : h ≡ span_end s 2 72) (q : m ≡ span_end s h 77) (r : e ≡ span_end s m 83) where
-  all_three : e ≡ span_end s (span_end s (span_end s 2 72) 77) 83
-  all_three = r ∙ ap (λ (n : ℕ). span_end s n 83) (q ∙ ap (λ (n : ℕ). span_end s n 77) p)
-
-  pub no_span : e ≡ 2 → false ≡ (not (eqb (span_end s (span_end s (span_end s 2 72) 77) 83) 2) && leb (length s) (span_end s (span_end s (span_end s 2 72) 77) 83))
-  no_span z = rw (← all_three, eq-eqb e 2 z)
-
-  pub spans : (e ≡ 2 → ⊥) → leb (length s) e ≡ (not (eqb (span_end s (span_end s (span_end s 2 72) 77) 83) 2) && leb (length s) (span_end s (span_end s (span_end s 2 72) 77) 83))
-  spans z = rw (← all_three, ne_eqb e 2 z)
+  pub three_spans : is_duration s ≡ (eqb (byte_at s 0) 80 && (eqb (byte_at s 1) 84 && (not (eqb e 2) && leb (length s) e)))
+  three_spans =
+      let f : e ≡ span_end s (span_end s (span_end s 2 72) 77) 83 = r ∙ ap (λ (n : ℕ). span_end s n 83) (q ∙ ap (λ (n : ℕ). span_end s n 77) p) in
+      rw f (duration_reads s)

@@ -3,6 +3,7 @@ pub mod Chains
 pub mod Dates
 pub mod Datetimes
 pub mod Durations
+pub mod Pairs
 pub mod Grammar
 pub mod Runs
 pub mod Theorems

@@ -1,19 +1,21 @@
 -- The levels of a topic from a place on, one by one.
-use Prim.Native.Nat.{ℕ, suc, ◌-◌, ◌≤◌, ◌<◌}
+use Rattle.std.specs.Prelude.{None, nat_eq}
+use Rattle.std.specs.List.{slice_split, list_all}
+use Prim.Native.Nat.{ℕ, ◌-◌, ◌≤◌, ◌<◌}
 use native.Mathlib.Omega.{arith}
-use mathlib.Core.Path.{◌≡◌, refl, sym, ◌∙◌}
+use mathlib.Core.Path.{◌≡◌, refl, sym, ap, ◌∙◌}
 use mathlib.Core.List.{List, [], ◌∷◌}
-use mathlib.Core.Bool.{Bool, true, false, ◌&&◌, or-false, cond}
+use mathlib.Core.Bool.{Bool, true, false, not, ◌&&◌, ◌||◌, cond}
 use lib.Dec.{leb}
 use lib.ListN.{length, drop, get_or, length-drop}
-use lib.Seq.{take_all, drop-cons}
+use lib.Seq.{take_all}
 use borrow.Author.Tests.{le-leb, lt-leb, leb-true, leb-false, eq-eqb, ne_eqb}
-use Rattle.text.specs.declared.Part.TheVariants.{Found, Nothing}
+use Rattle.text.specs.Ascii.{ascii}
 use Rattle.text.specs.Bytes.{slice, eq_bytes}
-use Rattle.text.specs.Split.{split, part_at}
-use Rattle.text.proofs.Split.{IsPart, is_part, is_none, split-first, split-more, split-last}
+use Rattle.text.specs.Split.{split, part_at, found_part}
+use Rattle.text.proofs.Split.{IsPart, is_part, is_none, split-first, split-more, split-last, split-parts}
 use Rattle.text.specs.Ids.{is_id}
-use Rattle.topic.specs.Words.{slash, dollar}
+use Rattle.topic.specs.Words.{slash, dollar, log_levels}
 use Rattle.topic.specs.Topics.{one_of, dollar_id, filled, end, each}
 use Rattle.topic.specs.Parts.{levels_from}
 
@@ -31,11 +33,11 @@ module _ (t : List ℕ) (at : ℕ) where
   unfolding end
   levels-more h = rw (levels-here h, split-first slash (drop at t))
 
-  pub levels-none : Nothing ≡ part_at slash t at → levels_from t at ≡ []
+  pub levels-none : None ≡ part_at slash t at → levels_from t at ≡ []
   levels-none q = levels-past (is_none slash t at q)
 
   -- a found part is the first of the levels
-  module _ (s e n : ℕ) (q : Found s e n ≡ part_at slash t at) where
+  module _ (s e n : ℕ) (q : found_part s e n ≡ part_at slash t at) where
     pub found : IsPart slash t at s e n
     found = is_part slash t at s e n q
 
@@ -51,46 +53,45 @@ module _ (t : List ℕ) (at : ℕ) where
 pub slice-tail : (t : List ℕ) (at : ℕ) → slice t at (length t) ≡ drop at t
 slice-tail t at = take_all (length t - at) (drop at t) (omega (arith, length-drop at t))
 
--- ---- a test of each level, level by level
-module _ (test : List ℕ → Bool) (t : List ℕ) (at i : ℕ) (inv : each test (levels_from t at) ≡ each test (levels_from t i)) where
-  pub each-end : Nothing ≡ part_at slash t i → true ≡ each test (levels_from t at)
-  unfolding each
-  each-end q = sym (inv ∙ rw (levels-none t i q))
+-- ---- a test of each level, over the parts that the library's `split` gives
+each_all : (test : List ℕ → Bool) (ls : List (List ℕ)) → list_all test ls ≡ each test ls
+unfolding each
+each_all test [] = refl
+each_all test (l ∷ ls) = ap (λ (b : Bool). test l && b) (each_all test ls)
 
-  module _ (s e n : ℕ) (q : Found s e n ≡ part_at slash t i) where
-    step : each test (levels_from t at) ≡ (test (slice t s e) && each test (levels_from t n))
-    unfolding each
-    step = inv ∙ rw (levels-step t i s e n q)
+pub each_split : (test : List ℕ → Bool) (t rest : List ℕ) (at : ℕ) → at ≤ length t → rest ≡ drop at t → list_all test (slice_split (λ b. nat_eq b slash) rest) ≡ each test (levels_from t at)
+each_split test t rest at h e = rw (e, levels-here t at h, split-parts slash (drop at t)) (each_all test (slice_split (λ b. nat_eq b slash) (drop at t)))
 
-    pub each-stop : test (slice t s e) ≡ false → false ≡ each test (levels_from t at)
-    each-stop h = sym (step ∙ rw h)
+pub each_past : (test : List ℕ → Bool) (t : List ℕ) (at : ℕ) → length t < at → true ≡ each test (levels_from t at)
+unfolding each
+each_past test t at h = rw (levels-past t at h)
 
-    pub each_next : test (slice t s e) ≡ true → each test (levels_from t at) ≡ each test (levels_from t n)
-    each_next h = step ∙ rw h
-
-pub slice_empty : (t : List ℕ) (s e : ℕ) → s ≡ e → filled (slice t s e) ≡ false
+pub filled-is : (l : List ℕ) → not (nat_eq (length l) 0) ≡ filled l
 unfolding filled
-slice_empty t s e h = let z : e - s ≡ 0 = omega arith in rw z
-
-pub slice-filled : (t : List ℕ) (s e : ℕ) → s < e → e ≤ length t → filled (slice t s e) ≡ true
-unfolding filled
-slice-filled t s e h k = let z : e - s ≡ suc (e - s - 1) = omega arith in rw (z, drop-cons t s 0 (omega arith))
+filled-is [] = refl
+filled-is (b ∷ l) = rw (ne_eqb (length (b ∷ l)) 0 (omega arith))
 
 -- ---- words
 
--- one of some words: the first, or one of the others
-module _ (w : List ℕ) (ws : List (List ℕ)) (l : List ℕ) where
-  pub one-here : eq_bytes l w ≡ true → one_of (w ∷ ws) l ≡ true
-  unfolding one_of
-  one-here h = rw h
+-- the value of `a || b`, by its way
+pub or_then : {a v : Bool} (b : Bool) → a ≡ true → v ≡ a → v ≡ (a || b)
+or_then b p q = q ∙ p ∙ ap (λ (x : Bool). x || b) (sym p)
 
-  pub one-next : eq_bytes l w ≡ false → one_of (w ∷ ws) l ≡ one_of ws l
-  unfolding one_of
-  one-next h = rw h
+pub or_else : {a b v : Bool} → a ≡ false → v ≡ b → v ≡ (a || b)
+or_else {a} {b} p q = q ∙ ap (λ (x : Bool). x || b) (sym p)
 
-pub one_last : (w l : List ℕ) → one_of (w ∷ []) l ≡ eq_bytes l w
+pub log-level : (s : List ℕ) (two three four r : Bool) → two ≡ (eq_bytes s (ascii "debug") || eq_bytes s (ascii "info")) → three ≡ (two || eq_bytes s (ascii "warn")) → four ≡ (three || eq_bytes s (ascii "error"))
+    → r ≡ (four || eq_bytes s (ascii "fatal")) → r ≡ one_of log_levels s
 unfolding one_of
-one_last w l = or-false (eq_bytes l w)
+log-level s two three four r e f g h = rw (h, g, f, e) (regroup (eq_bytes s (ascii "debug")) (eq_bytes s (ascii "info")) (eq_bytes s (ascii "warn")) (eq_bytes s (ascii "error")) (eq_bytes s (ascii "fatal")))
+  where
+    regroup : (a b c d e : Bool) → ((((a || b) || c) || d) || e) ≡ (a || (b || (c || (d || (e || false)))))
+    regroup true b c d e = refl
+    regroup false true c d e = refl
+    regroup false false true d e = refl
+    regroup false false false true e = refl
+    regroup false false false false true = refl
+    regroup false false false false false = refl
 
 -- `$` and an ID
 pub dollar-none : (l : List ℕ) → length l ≡ 0 → false ≡ dollar_id l

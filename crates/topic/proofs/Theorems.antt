@@ -1,4 +1,6 @@
 -- What crate `topic` promises beyond the contracts of its functions. Paper 01, "Topics".
+use Rattle.std.specs.Prelude.{Result}
+use Rattle.answer.specs.declared.Refused.{Refused}
 use Prim.Native.Nat.{ℕ}
 use mathlib.Core.Path.{◌≡◌}
 use mathlib.Core.List.{List, ◌∷◌}
@@ -56,5 +58,5 @@ pub write_read : (d t : List ℕ) (f : Form) → read_topic d t ≡ gives f → 
 write_read d t f e = let h = read-gives d t f e in (written d t f h, read-valid d t f h)
 
 -- The contract of `read` settles its answer: which form, and each place.
-pub settled : (topic : List ℕ) (at : ℕ) (x : Answer Form) (r r' : Topic) → Shows topic at x r → Shows topic at x r' → r ≡ r'
+pub settled : (topic : List ℕ) (at : ℕ) (x : Answer Form) (r r' : Result Topic Refused) → Shows topic at x r → Shows topic at x r' → r ≡ r'
 settled = shows-settled

@@ -1,6 +1,7 @@
 -- Paper 01, "Topics", the column "Flag": what each form asks of the flag "retained as published".
-use Rattle.std.specs.Prelude.{ℕ, ◌≡◌, Bool, true, not, List}
+use Rattle.std.specs.Prelude.{ℕ, ◌≡◌, Bool, true, not, List, Result}
 use Rattle.answer.specs.Answer.{Answer, refused, gives}
+use Rattle.answer.specs.declared.Refused.{Refused}
 use Rattle.topic.specs.Form.{Form, state, description, value, set, target, alert, log, broadcast, other}
 use Rattle.topic.specs.Meaning.{meaning}
 use Rattle.topic.specs.declared.Topic.{Topic}
@@ -24,7 +25,7 @@ flag_in (refused n) = Either
 flag_in (gives f) = flag_of f
 
 -- the flag that an answer's form asks for, in whatever topic its places are
-abbrev pub Asks : Topic → Flag → Type 0
+abbrev pub Asks : Result Topic Refused → Flag → Type 0
 Asks t r = (s : List ℕ) → r ≡ flag_in (meaning s t)
 
 -- whether a message's flag is as asked; `AsProperty` is left to the property

@@ -1,33 +1,38 @@
--- What the answer of `read` says: the paper's number, or the form with its byte strings, which the answer shows as places in the topic.
-use Rattle.std.specs.Prelude.{ℕ, ◌+◌, ◌≡◌, List, [], ◌∷◌, length}
-use Rattle.answer.specs.Answer.{Answer, refused, gives, only}
+-- What the answer of `read` says: why it is refused, or the form with its byte strings, which the answer shows as places in the topic.
+use Rattle.std.specs.Prelude.{ℕ, ◌+◌, ◌≡◌, List, [], ◌∷◌, length, Result, IfOk}
+use Rattle.answer.specs.Answer.{Answer}
+use Rattle.answer.specs.Refused.{says}
+use Rattle.answer.specs.declared.Refused.{Refused}
 use Rattle.text.specs.Places.{bytes_at, Within}
 use Rattle.text.specs.Split.{split}
 use Rattle.topic.specs.Words.{slash}
 use Rattle.topic.specs.Form.{Form, state, description, value, set, target, alert, log, broadcast, other}
 use Rattle.topic.specs.declared.Topic.{Topic}
-use Rattle.topic.specs.declared.Topic.TheVariants.{Refused, State, Description, Value, Set, Target, Alert, Log, Broadcast, Other}
+use Rattle.topic.specs.declared.Topic.TheVariants.{State, Description, Value, Set, Target, Alert, Log, Broadcast, Other}
 
 -- the levels of a part of a topic; an empty part has none
 unfoldable pub levels_in : List ℕ → List (List ℕ)
 levels_in [] = []
 levels_in (b ∷ s) = split slash (b ∷ s)
 
-unfoldable pub meaning : List ℕ → Topic → Answer Form
-meaning t (Refused n) = refused (only n)
-meaning t (State d) = gives (state (bytes_at t d))
-meaning t (Description d) = gives (description (bytes_at t d))
-meaning t (Value d n p) = gives (value (bytes_at t d) (bytes_at t n) (bytes_at t p))
-meaning t (Set d n p) = gives (set (bytes_at t d) (bytes_at t n) (bytes_at t p))
-meaning t (Target d n p) = gives (target (bytes_at t d) (bytes_at t n) (bytes_at t p))
-meaning t (Alert d a) = gives (alert (bytes_at t d) (bytes_at t a))
-meaning t (Log d l) = gives (log (bytes_at t d) (bytes_at t l))
-meaning t (Broadcast ids) = gives (broadcast (levels_in (bytes_at t ids)))
-meaning t (Other d w ls) = gives (other (bytes_at t d) (bytes_at t w) (levels_in (bytes_at t ls)))
+-- the form with its byte strings
+unfoldable pub form_at : List ℕ → Topic → Form
+form_at t (State d) = state (bytes_at t d)
+form_at t (Description d) = description (bytes_at t d)
+form_at t (Value d n p) = value (bytes_at t d) (bytes_at t n) (bytes_at t p)
+form_at t (Set d n p) = set (bytes_at t d) (bytes_at t n) (bytes_at t p)
+form_at t (Target d n p) = target (bytes_at t d) (bytes_at t n) (bytes_at t p)
+form_at t (Alert d a) = alert (bytes_at t d) (bytes_at t a)
+form_at t (Log d l) = log (bytes_at t d) (bytes_at t l)
+form_at t (Broadcast ids) = broadcast (levels_in (bytes_at t ids))
+form_at t (Other d w ls) = other (bytes_at t d) (bytes_at t w) (levels_in (bytes_at t ls))
+
+-- what the answer of `read` says
+abbrev pub meaning : List ℕ → Result Topic Refused → Answer Form
+meaning t r = says (form_at t) r
 
 -- every place that an answer shows lies in the topic
 abbrev pub Inside : ℕ → Topic → Type 0
-Inside n (Refused k) = Unit
 Inside n (State d) = Within n d
 Inside n (Description d) = Within n d
 Inside n (Value d e p) = Within n d × Within n e × Within n p
@@ -41,7 +46,6 @@ Inside n (Other d w ls) = Within n d × Within n w × Within n ls
 -- Which place is shown, of several with equal bytes. `at` is where the levels after the first two begin, `n` where the topic ends: a device stands first, a node and
 -- a property behind the `/` of the ID before, the ID of `other`'s word behind `/$`, and what comes last ends with the topic. With its bytes this settles a place.
 abbrev pub Stands : ℕ → ℕ → Topic → Type 0
-Stands at n (Refused k) = Unit
 Stands at n (State d) = d.start ≡ at
 Stands at n (Description d) = d.start ≡ at
 Stands at n (Value d e p) = (d.start ≡ at) × (e.start ≡ d.end + 1) × (p.start ≡ e.end + 1)
@@ -53,10 +57,10 @@ Stands at n (Broadcast ids) = ids.end ≡ n
 Stands at n (Other d w ls) = (d.start ≡ at) × (w.start ≡ d.end + 2) × (ls.end ≡ n)
 
 -- an answer that says what it should, with all its places in the topic and where they should be
-pub record Shows (topic : List ℕ) (at : ℕ) (should : Answer Form) (r : Topic) : Type 0 where
+pub record Shows (topic : List ℕ) (at : ℕ) (should : Answer Form) (r : Result Topic Refused) : Type 0 where
   pub says : meaning topic r ≡ should
-  pub places : Inside (length topic) r
-  pub stand : Stands at (length topic) r
+  pub places : IfOk r (Inside (length topic))
+  pub stand : IfOk r (Stands at (length topic))
 
 -- where the levels after the domain and `5` begin
 abbrev pub rest_of : List ℕ → ℕ

@@ -2,19 +2,19 @@
 #![tactic(auto)]
 
 ghost use Rattle.topic.specs.Topics.{read_topic};
-ghost use Rattle.topic.specs.Meaning.{Shows, rest_of};
-ghost use Rattle.topic.specs.Flags.{Asks, admits};
-ghost use Rattle.std.specs.Prelude.{◌≡◌};
+ghost use Rattle.topic.specs.Meaning.{form_at, Shows, rest_of};
+ghost use Rattle.topic.specs.Flags.{flag_of, Asks, admits};
+ghost use Rattle.std.specs.Prelude.{ℕ, List, ◌≡◌};
 
-use text::{Part, Place};
+use answer::Refused;
+use text::Place;
 
 mod level;
 mod rest;
 
-// A topic's form with the places of its IDs, or the refusal's number.
+// A topic's form with the places of its IDs.
 #[derive(Clone, Copy)]
 pub enum Topic {
-    Refused(u8),
     State {
         device: Place,
     },
@@ -66,68 +66,50 @@ pub enum Flag {
 }
 
 // Reads a topic of the table of this domain. Refused: 8 where the first two levels are not the domain and `5`, then 9 where the rest has no form.
-pub fn read(domain: &[u8], topic: &[u8]) -> Topic
+pub fn read(domain: &[u8], topic: &[u8]) -> Result<Topic, Refused>
     ensures { Shows topic.now (rest_of domain.now) (read_topic domain.now topic.now) result }
 {
-    let Part::Found {
-        start: s1,
-        end: e1,
-        next: n1,
-    } = text::next_part(topic, 0, b'/')
-    else {
-        return Topic::Refused(8);
+    let Some(first) = text::next_part(topic, 0, b'/') else {
+        return Err(Refused::OtherDomain);
     };
-    if !text::same(&topic[s1..e1], domain) {
-        return Topic::Refused(8);
+    if !text::same(&topic[first.start..first.end], domain) {
+        return Err(Refused::OtherDomain);
     }
-    let Part::Found {
-        start: s2,
-        end: e2,
-        next: n2,
-    } = text::next_part(topic, n1, b'/')
-    else {
-        return Topic::Refused(8);
+    let Some(second) = text::next_part(topic, first.next, b'/') else {
+        return Err(Refused::OtherDomain);
     };
-    if !text::same(&topic[s2..e2], b"5") {
-        return Topic::Refused(8);
+    if !text::same(&topic[second.start..second.end], b"5") {
+        return Err(Refused::OtherDomain);
     }
-    rest::form(topic, n2)
+    rest::form(topic, second.next)
 }
 
 // What the form of a topic asks of a message's flag; a refused topic asks nothing.
-pub fn flag_of(t: Topic) -> Flag
+pub fn flag_of(t: Result<Topic, Refused>) -> Flag
     ensures { Asks t result }
 {
     match t {
-        Topic::Refused(_) => Flag::Either,
-        Topic::State { device: _ } => Flag::Retained,
-        Topic::Description { device: _ } => Flag::Retained,
-        Topic::Value {
-            device: _,
-            node: _,
-            property: _,
-        } => Flag::AsProperty,
-        Topic::Set {
-            device: _,
-            node: _,
-            property: _,
-        } => Flag::NotRetained,
-        Topic::Target {
-            device: _,
-            node: _,
-            property: _,
-        } => Flag::Retained,
-        Topic::Alert { device: _, name: _ } => Flag::Retained,
-        Topic::Log {
-            device: _,
-            level: _,
-        } => Flag::Either,
-        Topic::Broadcast { ids: _ } => Flag::Either,
-        Topic::Other {
-            device: _,
-            word: _,
-            levels: _,
-        } => Flag::Either,
+        Ok(form) => form.flag(),
+        Err(_) => Flag::Either,
+    }
+}
+
+impl Topic {
+    // What the form asks of a message's flag.
+    pub fn flag(self) -> Flag
+        ensures { (topic : List ℕ) → result ≡ flag_of (form_at topic self) }
+    {
+        match self {
+            Topic::State { .. } => Flag::Retained,
+            Topic::Description { .. } => Flag::Retained,
+            Topic::Value { .. } => Flag::AsProperty,
+            Topic::Set { .. } => Flag::NotRetained,
+            Topic::Target { .. } => Flag::Retained,
+            Topic::Alert { .. } => Flag::Retained,
+            Topic::Log { .. } => Flag::Either,
+            Topic::Broadcast { .. } => Flag::Either,
+            Topic::Other { .. } => Flag::Either,
+        }
     }
 }
 

@@ -1,13 +1,15 @@
 -- Verdicts on value, set and target messages, in the order of their tests.
-use Prim.Native.Nat.{ℕ, zero, suc, ◌≤◌, ◌<◌}
+use Rattle.std.specs.Prelude.{Option, None, Some, Result, Ok, Err}
+use Rattle.answer.specs.declared.Refused.{Refused}
+use Rattle.std.proofs.lemmas.Result.{IfOk-at_ok}
+use Prim.Native.Nat.{ℕ, ◌≤◌, ◌<◌}
 use native.Mathlib.Omega.{arith}
 use mathlib.Core.Path.{◌≡◌, refl, sym, ap, ap₂, ◌∙◌}
 use mathlib.Core.List.{List}
-use mathlib.Core.Option.{Option, none, some}
 use lib.ListN.{length, get_or, set}
 use Rattle.answer.specs.Answer.{Answer, gives, and_then}
 use Rattle.memory.specs.State.{state, room_of}
-use Rattle.device.specs.Layout.{properties_most, record_at}
+use Rattle.device.specs.Layout.{properties_most, payload_most, record_at}
 use Rattle.device.specs.Decode.{record_of, device_of}
 use Rattle.device.specs.Meaning.{property_in, PropertyIn}
 use Rattle.device.specs.declared.Property as shown
@@ -19,7 +21,7 @@ use Rattle.rules.specs.Table.{Device, Description, Property, properties_of, with
 use Rattle.rules.specs.Find.{is_named, find_property, change_property, in_description, in_device, change_at}
 use Rattle.rules.specs.Messages.{Message, held_by, fill, lane_rules, obey_lane}
 use Rattle.rules.proofs.Ranks.{rank_of, rank_of_property, change_rank, change-set, property_rank, property-none, change_property_rank, first-within}
-use Rattle.verdict.specs.declared.Verdict.TheVariants.{Refused, Lane}
+use Rattle.verdict.specs.declared.Verdict.TheVariants.{Lane}
 use Rattle.verdict.specs.Verdict.{makes, Judged}
 use Rattle.verdict.specs.Parts.{unless, Allows}
 use Rattle.verdict.proofs.Found.{someone, found, missing}
@@ -27,8 +29,8 @@ use Rattle.verdict.proofs.Found.{someone, found, missing}
 -- a property changed by its IDs is changed by its rank
 in-description : (f : List Property → List Property) (g : List Property → List Property) (y : Option Description) → f (properties_of y) ≡ g (properties_of y) → in_description f y ≡ in_description g y
 unfolding in_description properties_of
-in-description f g none e = refl
-in-description f g (some x) e = ap (λ (ps : List Property). some (record { root = x.root; parent = x.parent; version = x.version; properties = ps })) e
+in-description f g None e = refl
+in-description f g (Some x) e = ap (λ (ps : List Property). Some (record { root = x.root; parent = x.parent; version = x.version; properties = ps })) e
 
 in_device_lem : (f g : List Property → List Property) (v : Device) → f (properties_of v.description) ≡ g (properties_of v.description) → in_device f v ≡ in_device g v
 unfolding in_device
@@ -38,7 +40,7 @@ change-same : (r : ℕ) (f g : Device → Device) (ds : List Device) → f (get_
 change-same r f g ds e = change-set r f ds someone ∙ ap (set ds r) e ∙ sym (change-set r g ds someone)
 
 module _ (d : ℕ) (kind : LaneKind) (x : Message) (ds : List Device) (id node property : List ℕ) (r : ℕ) (rank : r ≡ rank_of id ds) where
-  pub lane-unknown : (r < length ds → ⊥) → Judged d x ds (obey_lane kind id node property x ds) (Refused 12)
+  pub lane-unknown : (r < length ds → ⊥) → Judged d x ds (obey_lane kind id node property x ds) (Err Refused.NoDevice)
   unfolding makes and_then obey_lane
   lane-unknown h = record { says = rw (missing id ds r rank h); fits = tt }
 
@@ -47,7 +49,7 @@ module _ (d : ℕ) (kind : LaneKind) (x : Message) (ds : List Device) (id node p
     unfolding and_then obey_lane
     to_device = rw (found id ds r rank h, here)
 
-    pub no-property : (i < length (properties_of v.description) → ⊥) → Judged d x ds (obey_lane kind id node property x ds) (Refused 16)
+    pub no-property : (i < length (properties_of v.description) → ⊥) → Judged d x ds (obey_lane kind id node property x ds) (Err Refused.NoProperty)
     unfolding makes and_then
     no-property k = record {
       says = sym (to_device ∙ ap (λ (a : Answer Property). and_then a (λ p. lane_rules kind p x (gives (fill kind id node property x ds))))
@@ -74,14 +76,16 @@ module _ (d : ℕ) (kind : LaneKind) (x : Message) (ds : List Device) (id node p
           (property_rank node property (properties_of v.description) p (rw (sym place) k) ∙ ap (λ (n : ℕ). gives (get_or (properties_of v.description) n p)) (sym place) ∙ ap gives there)
           ∙ ap (λ (l : List Device). lane_rules kind p x (gives l)) filled
 
-      pub lane-refused : (n : ℕ) → Allows kind p x n → (n ≡ 0 → ⊥) → Judged d x ds (obey_lane kind id node property x ds) (Refused n)
-      unfolding makes unless
-      lane-refused zero q z = absurd (z refl)
-      lane-refused (suc n) q z = record { says = sym (to-rules ∙ q.says _); fits = tt }
+      pub lane-refused : (q : Result Unit Refused) → Allows kind p x q → (n : Refused) → q ≡ Err n → Judged d x ds (obey_lane kind id node property x ds) (Err n)
+      unfolding unless
+      lane-refused q a n e = record { says = sym (to-rules ∙ a.says _ ∙ ap (λ (s : Result Unit Refused). unless s (gives (change_at r (in_device (change_at i (with_lane kind (held_by x)))) ds))) e); fits = tt }
 
-      pub lane-filled : (n : ℕ) → Allows kind p x n → n ≡ 0 → length (properties_of v.description) ≤ properties_most → Judged d x ds (obey_lane kind id node property x ds) (Lane r i kind)
+      pub lane-filled : (q : Result Unit Refused) → Allows kind p x q → (u : Unit) → q ≡ Ok u → length (properties_of v.description) ≤ properties_most → Judged d x ds (obey_lane kind id node property x ds) (Ok (Lane r i kind))
       unfolding makes unless
-      lane-filled n q z l = record { says = sym (to-rules ∙ q.says _ ∙ ap (λ (j : ℕ). unless j (gives (change_at r (in_device (change_at i (with_lane kind (held_by x)))) ds))) z); fits = (h, omega arith, q.short z) }
+      lane-filled q a u e l = record {
+        says = sym (to-rules ∙ a.says _ ∙ ap (λ (s : Result Unit Refused). unless s (gives (change_at r (in_device (change_at i (with_lane kind (held_by x)))) ds))) e);
+        fits = (h, omega arith, IfOk-at_ok (λ _. length x.payload ≤ payload_most) e a.short);
+      }
 
 -- ---- as memory shows them
 

@@ -1,10 +1,11 @@
 -- A device found by its rank, and an empty payload by its length.
+use Rattle.std.specs.Prelude.{Option, None, Some, Ok, Err}
+use Rattle.answer.specs.declared.Refused.{Refused}
 use Prim.Native.Nat.{ℕ, ◌<◌}
 use native.Mathlib.Omega.{arith}
 use mathlib.Core.Path.{◌≡◌, refl, sym, ap, ◌∙◌}
 use mathlib.Core.List.{List, [], ◌∷◌}
 use mathlib.Core.Bool.{true, false}
-use mathlib.Core.Option.{Option}
 use lib.Dec.{leb}
 use lib.ListN.{length, get_or}
 use Rattle.answer.specs.Answer.{refused, gives, and_then, only}
@@ -16,10 +17,8 @@ use Rattle.rules.specs.Messages.{Message, new_device, is_empty, is_due}
 use Rattle.rules.proofs.Ranks.{rank_of, place_for, find_rank, find_none, first-within}
 use Rattle.memory.specs.Layout.{capacity}
 use Rattle.memory.proofs.Theorems.{capacity_is}
-use Rattle.lookup.specs.Meaning.{opening_of, last_is}
-use Rattle.lookup.specs.declared.LastTime.{LastTime}
-use Rattle.lookup.specs.declared.LastTime.TheVariants.{Never, At}
-use Rattle.verdict.specs.declared.Verdict.TheVariants.{Refused, Time}
+use Rattle.lookup.specs.Meaning.{opening_of}
+use Rattle.verdict.specs.declared.Verdict.TheVariants.{Time}
 use Rattle.verdict.specs.Verdict.{makes, Judged}
 
 pub empty_yes : (s : List ℕ) → length s ≡ 0 → is_empty s ≡ true
@@ -44,11 +43,11 @@ module _ (id : List ℕ) (ds : List Device) (r : ℕ) (rank : r ≡ rank_of id d
   missing h = find_none id ds (omega (arith, rank, h, first-within (λ (v : Device). eq_bytes v.id id) ds))
 
   -- a device that must be there, and nothing else
-  pub unknown : (d : ℕ) (x : Message) → (r < length ds → ⊥) → Judged d x ds (and_then (find id ds) (λ v. gives ds)) (Refused 12)
+  pub unknown : (d : ℕ) (x : Message) → (r < length ds → ⊥) → Judged d x ds (and_then (find id ds) (λ v. gives ds)) (Err Refused.NoDevice)
   unfolding makes and_then
   unknown d x h = record { says = rw (missing h); fits = tt }
 
-  pub known : (d : ℕ) (x : Message) → r < length ds → Judged d x ds (and_then (find id ds) (λ v. gives ds)) Time
+  pub known : (d : ℕ) (x : Message) → r < length ds → Judged d x ds (and_then (find id ds) (λ v. gives ds)) (Ok Time)
   unfolding makes and_then
   known d x h = record { says = rw (found h); fits = tt }
 
@@ -66,10 +65,10 @@ devices_are m = capacity_is m
 
 -- ---- the last time
 
-pub never : (l : Option ℕ) (time : ℕ) (r : LastTime) → last_is r ≡ l → r ≡ Never → true ≡ is_due l time
-unfolding last_is is_due
-never l time r e q = ap (λ (o : Option ℕ). is_due o time) (ap last_is (sym q) ∙ e)
+pub never : (l : Option ℕ) (time : ℕ) (r : Option ℕ) → r ≡ l → r ≡ None → true ≡ is_due l time
+unfolding is_due
+never l time r e q = ap (λ (o : Option ℕ). is_due o time) (sym q ∙ e)
 
-pub since : (l : Option ℕ) (time t : ℕ) (r : LastTime) → last_is r ≡ l → r ≡ At t → leb t time ≡ is_due l time
-unfolding last_is is_due
-since l time t r e q = ap (λ (o : Option ℕ). is_due o time) (ap last_is (sym q) ∙ e)
+pub since : (l : Option ℕ) (time t : ℕ) (r : Option ℕ) → r ≡ l → r ≡ Some t → leb t time ≡ is_due l time
+unfolding is_due
+since l time t r e q = ap (λ (o : Option ℕ). is_due o time) (sym q ∙ e)

@@ -1,9 +1,10 @@
 -- Verdicts on a state message, in the order of its tests: "state: empty 12; else 14, 13."
+use Rattle.std.specs.Prelude.{Option, None, Some, Ok, Err}
+use Rattle.answer.specs.declared.Refused.{Refused}
 use Prim.Native.Nat.{ℕ, ◌≤◌, ◌<◌}
 use native.Mathlib.Omega.{arith}
 use mathlib.Core.Path.{◌≡◌, sym, ap, ◌∙◌}
 use mathlib.Core.List.{List}
-use mathlib.Core.Option.{Option, none, some}
 use lib.ListN.{length}
 use lib.Dec.{ltb}
 use borrow.Author.Tests.{lt-ltb, le-ltb}
@@ -20,7 +21,7 @@ use Rattle.rules.specs.Table.{Device}
 use Rattle.rules.specs.Find.{find, remove, insert, change_at}
 use Rattle.rules.specs.Messages.{Message, with_state, new_device, make_or_update, by_word, obey_state}
 use Rattle.rules.proofs.Ranks.{rank_of, place_for, change_rank, remove_rank, insert-place, first-within}
-use Rattle.verdict.specs.declared.Verdict.TheVariants.{Refused, Remove, State, Create}
+use Rattle.verdict.specs.declared.Verdict.TheVariants.{Remove, State, Create}
 use Rattle.verdict.specs.Verdict.{makes, Judged}
 use Rattle.verdict.proofs.Found.{empty_yes, empty_no, found, missing}
 
@@ -35,11 +36,11 @@ module _ (d : ℕ) (x : Message) (ds : List Device) (id : List ℕ) where
 
   module _ (r : ℕ) (rank : r ≡ rank_of id ds) where
     -- an empty payload
-    pub remove-unknown : length x.payload ≡ 0 → (r < length ds → ⊥) → Judged d x ds (obey_state d id x ds) (Refused 12)
+    pub remove-unknown : length x.payload ≡ 0 → (r < length ds → ⊥) → Judged d x ds (obey_state d id x ds) (Err Refused.NoDevice)
     unfolding makes and_then
     remove-unknown e h = record { says = sym (by_empty e ∙ ap (λ (a : Answer Device). and_then a (λ v. gives (remove id ds))) (missing id ds r rank h)); fits = tt }
 
-    pub remove_known : length x.payload ≡ 0 → r < length ds → Judged d x ds (obey_state d id x ds) (Remove r)
+    pub remove_known : length x.payload ≡ 0 → r < length ds → Judged d x ds (obey_state d id x ds) (Ok (Remove r))
     unfolding makes and_then
     remove_known e h = record {
       says = sym (by_empty e ∙ ap (λ (a : Answer Device). and_then a (λ v. gives (remove id ds))) (found id ds r rank h) ∙ ap gives (remove_rank id ds ∙ ap (λ (k : ℕ). remove_at k ds) (sym rank)));
@@ -47,27 +48,27 @@ module _ (d : ℕ) (x : Message) (ds : List Device) (id : List ℕ) where
     }
 
     -- no state word
-    pub no_word : (length x.payload ≡ 0 → ⊥) → none ≡ state_worded x.payload → Judged d x ds (obey_state d id x ds) (Refused 14)
+    pub no_word : (length x.payload ≡ 0 → ⊥) → None ≡ state_worded x.payload → Judged d x ds (obey_state d id x ds) (Err Refused.BadPayload)
     unfolding makes by_word
-    no_word h e = record { says = sym (by-word none h e); fits = tt }
+    no_word h e = record { says = sym (by-word None h e); fits = tt }
 
-    module _ (s : DeviceState) (h : length x.payload ≡ 0 → ⊥) (e : some s ≡ state_worded x.payload) where
-      pub update : r < length ds → Judged d x ds (obey_state d id x ds) (State r s)
+    module _ (s : DeviceState) (h : length x.payload ≡ 0 → ⊥) (e : Some s ≡ state_worded x.payload) where
+      pub update : r < length ds → Judged d x ds (obey_state d id x ds) (Ok (State r s))
       unfolding makes by_word make_or_update
       update k = record {
-        says = sym (by-word (some s) h e ∙ ap (make_or_update d id s x.time ds) (found id ds r rank k) ∙ ap gives (change_rank id (with_state s x.time) ds ∙ ap (λ (i : ℕ). change_at i (with_state s x.time) ds) (sym rank)));
+        says = sym (by-word (Some s) h e ∙ ap (make_or_update d id s x.time ds) (found id ds r rank k) ∙ ap gives (change_rank id (with_state s x.time) ds ∙ ap (λ (i : ℕ). change_at i (with_state s x.time) ds) (sym rank)));
         fits = k;
       }
 
       by-room : (r < length ds → ⊥) → obey_state d id x ds ≡ require (ltb (length ds) d) 13 (gives (insert (new_device id s x.time) ds))
       unfolding by_word make_or_update
-      by-room k = by-word (some s) h e ∙ ap (make_or_update d id s x.time ds) (missing id ds r rank k)
+      by-room k = by-word (Some s) h e ∙ ap (make_or_update d id s x.time ds) (missing id ds r rank k)
 
-      pub full : (r < length ds → ⊥) → d ≤ length ds → Judged d x ds (obey_state d id x ds) (Refused 13)
+      pub full : (r < length ds → ⊥) → d ≤ length ds → Judged d x ds (obey_state d id x ds) (Err Refused.Full)
       unfolding makes
       full k f = record { says = sym (by-room k ∙ require-fails (ltb (length ds) d) 13 _ (le-ltb _ _ f)); fits = tt }
 
-      pub create : (p : ℕ) (at : Place) → bytes_at x.topic at ≡ id → length id ≤ id_most → (r < length ds → ⊥) → length ds < d → p ≡ place_for id ds → Judged d x ds (obey_state d id x ds) (Create p s at)
+      pub create : (p : ℕ) (at : Place) → bytes_at x.topic at ≡ id → length id ≤ id_most → (r < length ds → ⊥) → length ds < d → p ≡ place_for id ds → Judged d x ds (obey_state d id x ds) (Ok (Create p s at))
       unfolding makes
       create p at t l k f q = record {
         says = sym (by-room k ∙ require-holds (ltb (length ds) d) 13 _ (lt-ltb _ _ f)

@@ -1,77 +1,70 @@
 // Messages to a property: value, set, target.
-ghost use Rattle.std.specs.Prelude.{ℕ, List, ◌≡◌};
-ghost use Rattle.rules.specs.Messages.{same_flag};
+ghost use Rattle.std.specs.Prelude.{ℕ, List};
 ghost use Rattle.device.specs.Meaning.{property_in};
 ghost use Rattle.verdict.specs.Verdict.{sent};
 ghost use Rattle.verdict.specs.Parts.{value_tests, set_tests, target_tests, Passes, Allows, OnLane};
 
-use crate::Verdict;
+use crate::{Message, Verdict};
+use answer::Refused;
 use device::Property;
 use rules::LaneKind;
 use text::Place;
 
-fn same_flag(a: bool, b: bool) -> bool
-    ensures { result ≡ same_flag a b }
-{
-    if a {
-        return b;
-    }
-    !b
-}
-
-// "Value: 12, 16, 11, 14.": the last two; 0 for none.
-fn of_value(keeps: bool, retained: bool, empty: bool, valid: bool) -> u8
+// "Value: 12, 16, 11, 14.": the last two.
+fn of_value(keeps: bool, retained: bool, empty: bool, valid: bool) -> Result<(), Refused>
     ensures { Passes (value_tests keeps retained empty valid) empty valid result }
 {
-    if !same_flag(keeps, retained) {
-        return 11;
+    if keeps != retained {
+        return Err(Refused::WrongFlag);
     }
-    if valid {
-        return 0;
+    if !valid && !(empty && keeps) {
+        return Err(Refused::BadPayload);
     }
-    if !empty {
-        return 14;
-    }
-    if !keeps {
-        return 14;
-    }
-    0
+    Ok(())
 }
 
 // "Set: 12, 16, 17, 14."
-fn of_set(settable: bool, empty: bool, valid: bool) -> u8
+fn of_set(settable: bool, empty: bool, valid: bool) -> Result<(), Refused>
     ensures { Passes (set_tests settable valid) empty valid result }
 {
     if !settable {
-        return 17;
+        return Err(Refused::NotSettable);
     }
     if !valid {
-        return 14;
+        return Err(Refused::BadPayload);
     }
-    0
+    Ok(())
 }
 
 // "Target: 12, 16, 14."
-fn of_target(empty: bool, valid: bool) -> u8
+fn of_target(empty: bool, valid: bool) -> Result<(), Refused>
     ensures { Passes (target_tests empty valid) empty valid result }
 {
-    if empty {
-        return 0;
+    if !empty && !valid {
+        return Err(Refused::BadPayload);
     }
-    if !valid {
-        return 14;
-    }
-    0
+    Ok(())
 }
 
-// What refuses a message to this property of the room; 0 where nothing does.
-fn refusal(kind: LaneKind, room: &[u8], p: Property, retained: bool, payload: &[u8]) -> u8
+// Whether a message to this property of the room is refused.
+fn refusal(
+    kind: LaneKind,
+    room: &[u8],
+    p: Property,
+    retained: bool,
+    payload: &[u8],
+) -> Result<(), Refused>
     ensures { (time : ℕ) (topic : List ℕ) → Allows kind (property_in room.now p) (sent time topic retained payload.now) result }
 {
+    let p = p.declared;
     let format = p.format;
-    let d = p.datatype;
-    let valid = payload::judge(d, text::slice(room, format.start, format.end), payload);
-    let empty = payload.len() == 0;
+    let valid = payload::judge(
+        p.datatype,
+        text::slice(room, format.start, format.end),
+        payload,
+    );
+    let empty = payload.is_empty();
+    // Kept by hand: each kind has a rule and refusals of its own, and a `match` on the enum says which.
     match kind {
         LaneKind::Value => of_value(p.retained, retained, empty, valid),
         LaneKind::Target => of_target(empty, valid),
@@ -83,33 +76,34 @@ fn refusal(kind: LaneKind, room: &[u8], p: Property, retained: bool, payload: &[
 pub(crate) fn lane(
     mem: &[u8],
     kind: LaneKind,
-    topic: &[u8],
+    message: Message,
     device: Place,
     node: Place,
     property: Place,
-    retained: bool,
-    payload: &[u8],
-) -> Verdict
-    ensures { OnLane mem.now kind topic.now device node property retained payload.now result }
+) -> Result<Verdict, Refused>
+    ensures { OnLane mem.now kind message.entry.topic.now device node property message.entry.retained message.entry.payload.now result }
 {
-    let rank = lookup::find(mem, text::slice(topic, device.start, device.end));
+    let rank = lookup::find(mem, text::slice(message.topic, device.start, device.end));
     if lookup::count(mem) <= rank {
-        return Verdict::Refused(12);
+        return Err(Refused::NoDevice);
     }
     let room = lookup::room(mem, rank);
-    let node_id = text::slice(topic, node.start, node.end);
-    let id = text::slice(topic, property.start, property.end);
+    let node_id = text::slice(message.topic, node.start, node.end);
+    let id = text::slice(message.topic, property.start, property.end);
     let i = device::find_property(room, node_id, id);
     if device::properties(room) <= i {
-        return Verdict::Refused(16);
+        return Err(Refused::NoProperty);
     }
-    let n = refusal(kind, room, device::property_at(room, i), retained, payload);
-    if n != 0 {
-        return Verdict::Refused(n);
-    }
-    Verdict::Lane {
-        rank: rank,
+    refusal(
+        kind,
+        room,
+        device::property_at(room, i),
+        message.retained,
+        message.payload,
+    )?;
+    Ok(Verdict::Lane {
+        rank,
         property: i,
-        kind: kind,
-    }
+        kind,
+    })
 }

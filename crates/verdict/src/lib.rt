@@ -1,8 +1,9 @@
-// What a message makes of the table, or its refusal: judged, and nothing written.
+// What a message makes of the table, or why it is refused: judged, and nothing written.
 #![tactic(auto)]
 
 ghost use Rattle.std.specs.Prelude.{ℕ, List, ◌≡◌};
-ghost use Rattle.topic.specs.Meaning.{meaning};
+ghost use Rattle.answer.specs.Answer.{gives};
+ghost use Rattle.topic.specs.Meaning.{form_at};
 ghost use Rattle.lookup.specs.Meaning.{means};
 ghost use Rattle.rules.specs.Messages.{is_due};
 ghost use Rattle.verdict.specs.Verdict.{sent, Verdicts};
@@ -11,17 +12,26 @@ ghost use Rattle.verdict.specs.Parts.{unless, formed, OnForm};
 mod devices;
 mod lanes;
 
+use answer::Refused;
 use devices::{description, known, state};
 use lanes::lane;
-use lookup::LastTime;
 use rules::{DeviceState, LaneKind};
 use text::Place;
 use topic::Topic;
 
-// A refusal's number, or what is to be done: devices and properties by rank, `id` in the message's topic.
+// A finished message.
+// Kept by hand: beside `NewEvent` of `trace`, since a table is judged without trace files.
+#[derive(Clone, Copy)]
+pub struct Message<'a> {
+    pub time: u64,
+    pub topic: &'a [u8],
+    pub retained: bool,
+    pub payload: &'a [u8],
+}
+
+// What is to be done of a message that is taken: devices and properties by rank, `id` in the message's topic.
 #[derive(Clone, Copy)]
 pub enum Verdict {
-    Refused(u8),
     Time,
     Remove {
         rank: u8,
@@ -49,54 +59,45 @@ pub enum Verdict {
     },
 }
 
-// 8 to 11: what refuses a message whose topic was read so; 0 where nothing does.
-fn refusal(t: Topic, retained: bool, payload: &[u8]) -> u8
-    ensures { (topic : List ℕ) → formed retained payload.now (meaning topic t) ≡ unless result (meaning topic t) }
+// 10 and 11: whether a message with a topic of this form is refused.
+fn refusal(t: Topic, message: Message) -> Result<(), Refused>
+    ensures { (topic : List ℕ) → formed message.entry.retained message.entry.payload.now (gives (form_at topic t)) ≡ unless result (gives (form_at topic t)) }
 {
-    if let Topic::Refused(n) = t {
-        return n;
+    if !text::is_text(message.payload) {
+        return Err(Refused::NotUtf8);
     }
-    if !text::is_text(payload) {
-        return 10;
+    if !t.flag().admits(message.retained) {
+        return Err(Refused::WrongFlag);
     }
-    let flag = topic::flag_of(t);
-    if !flag.admits(retained) {
-        return 11;
-    }
-    0
+    Ok(())
 }
 
 // A message of a form that is not refused so far.
-fn by_form(mem: &[u8], t: Topic, topic: &[u8], retained: bool, payload: &[u8]) -> Verdict
-    ensures { OnForm mem.now topic.now t retained payload.now result }
+fn by_form(mem: &[u8], t: Topic, message: Message) -> Result<Verdict, Refused>
+    ensures { OnForm mem.now message.entry.topic.now t message.entry.retained message.entry.payload.now result }
 {
     match t {
-        Topic::Refused(n) => Verdict::Refused(n),
-        Topic::State { device } => state(mem, topic, device, payload),
-        Topic::Description { device } => description(mem, topic, device, payload),
+        Topic::State { device } => state(mem, message, device),
+        Topic::Description { device } => description(mem, message, device),
         Topic::Value {
             device: d,
             node: n,
             property: p,
-        } => lane(mem, LaneKind::Value, topic, d, n, p, retained, payload),
+        } => lane(mem, LaneKind::Value, message, d, n, p),
         Topic::Set {
             device: d,
             node: n,
             property: p,
-        } => lane(mem, LaneKind::Asked, topic, d, n, p, retained, payload),
+        } => lane(mem, LaneKind::Asked, message, d, n, p),
         Topic::Target {
             device: d,
             node: n,
             property: p,
-        } => lane(mem, LaneKind::Target, topic, d, n, p, retained, payload),
-        Topic::Alert { device, name: _ } => known(mem, topic, device),
-        Topic::Log { device, level: _ } => known(mem, topic, device),
-        Topic::Broadcast { ids: _ } => Verdict::Time,
-        Topic::Other {
-            device,
-            word: _,
-            levels: _,
-        } => known(mem, topic, device),
+        } => lane(mem, LaneKind::Target, message, d, n, p),
+        Topic::Alert { device, .. } => known(mem, message.topic, device),
+        Topic::Log { device, .. } => known(mem, message.topic, device),
+        Topic::Broadcast { .. } => Ok(Verdict::Time),
+        Topic::Other { device, .. } => known(mem, message.topic, device),
     }
 }
 
@@ -105,22 +106,19 @@ fn is_due(mem: &[u8], time: u64) -> bool
     ensures { result ≡ is_due (means mem.now).now.last time }
 {
     match lookup::last(mem) {
-        LastTime::Never => true,
-        LastTime::At(last) => last <= time,
+        None => true,
+        Some(last) => last <= time,
     }
 }
 
 // Judges a message, in the order 7, 8, 9, 10, 11 (forms with a fixed flag), then by form.
-pub fn judge(mem: &[u8], time: u64, topic: &[u8], retained: bool, payload: &[u8]) -> Verdict
-    ensures { Verdicts mem.now (sent time topic.now retained payload.now) result }
+pub fn judge(mem: &[u8], message: Message) -> Result<Verdict, Refused>
+    ensures { Verdicts mem.now (sent message.entry.time message.entry.topic.now message.entry.retained message.entry.payload.now) result }
 {
-    if !is_due(mem, time) {
-        return Verdict::Refused(7);
+    if !is_due(mem, message.time) {
+        return Err(Refused::Earlier);
     }
-    let t = topic::read(lookup::domain(mem), topic);
-    let n = refusal(t, retained, payload);
-    if n != 0 {
-        return Verdict::Refused(n);
-    }
-    by_form(mem, t, topic, retained, payload)
+    let t = topic::read(lookup::domain(mem), message.topic)?;
+    refusal(t, message)?;
+    by_form(mem, t, message)
 }

@@ -1,4 +1,8 @@
 -- 0 is returned where an answer is none of the paper's refusals.
+use Rattle.std.specs.Prelude.{Err, Ok, Result, None, Option, Some}
+use Rattle.faults.specs.Faults.{fault_number}
+use Rattle.faults.specs.declared.Fault.{Fault}
+use Rattle.answer.specs.declared.Refused.{Refused}
 use Prim.Native.Nat.{ℕ, zero, suc}
 use mathlib.Core.Path.{◌≡◌, refl, sym, ap, ◌∙◌, subst}
 use mathlib.Core.List.{List, [], ◌∷◌}
@@ -8,29 +12,20 @@ use lib.ListN.{length, take}
 use lib.Dec.{leb}
 use borrow.Author.Tests.{leb-true}
 use Rattle.answer.specs.Answer.{Refusal, Answer, refused, gives, and_then, placed}
-use Rattle.faults.specs.declared.Told.{Told}
-use Rattle.faults.specs.declared.Told.TheVariants.{Nothing, At}
+use Rattle.answer.specs.declared.Refused.{Refused}
+use Rattle.trace.specs.declared.EventAt.{EventAt}
 use Rattle.text.specs.Split.{split}
 use Rattle.text.proofs.Bytes.{both}
 use Rattle.json_text.specs.Bytes.{ws}
 use Rattle.json_text.specs.Strings.{string_at}
-use Rattle.json_text.specs.declared.Scan.{Scan}
-use Rattle.json_text.specs.declared.Scan.TheVariants.{End, Bad}
 use Rattle.escapes.specs.Decode.{Decoded, whole, half}
 use Rattle.fields.specs.Values.{decoded_at}
-use Rattle.trace.specs.declared.Checked.{Checked}
-use Rattle.trace.specs.declared.Checked.TheVariants as checks
-use Rattle.trace.specs.declared.Reading.{Reading}
-use Rattle.trace.specs.declared.Reading.TheVariants as reading
-use Rattle.trace.specs.declared.Written.{Written}
-use Rattle.trace.specs.declared.Written.TheVariants as writing
 use Rattle.trace.specs.Layout.{Event, decode}
 use Rattle.trace.specs.Calls.{length_of, meaning_checked, checked, meaning_reading, read_at, meaning_written, emptied, added, appended, event}
 use Rattle.topic.specs.Words.{slash}
 use Rattle.topic.specs.Form.{Form}
 use Rattle.topic.specs.declared.Topic.{Topic}
 use Rattle.topic.specs.declared.Topic.TheVariants.{State, Description, Value, Set, Target, Alert, Log, Broadcast, Other}
-use Rattle.topic.specs.declared.Topic.TheVariants as topic
 use Rattle.topic.specs.Topics.{read_topic}
 use Rattle.topic.specs.Meaning as topics
 use Rattle.properties.specs.declared.Entry.{Entry}
@@ -43,34 +38,19 @@ use Rattle.description.specs.Meaning as descriptions
 use Rattle.rules.specs.Questions.{at}
 use Rattle.rules.proofs.Refusals.{Passes, required, then, nth, read-levels, passed, not_zero, described-set}
 use Rattle.lookup.specs.Contract.{is_openable}
-use Rattle.table.specs.declared.Outcome.{Outcome}
-use Rattle.table.specs.declared.Outcome.TheVariants as outcome
-use Rattle.table.specs.declared.Offer.{Offer}
-use Rattle.table.specs.declared.Offer.TheVariants as offers
-use Rattle.table.specs.Outcome.{said, offer}
-use Rattle.questions.specs.declared.Number.{Number}
-use Rattle.questions.specs.declared.Number.TheVariants as number
-use Rattle.questions.specs.declared.Id.{Id}
-use Rattle.questions.specs.declared.Id.TheVariants as id
-use Rattle.questions.specs.declared.States.{States}
-use Rattle.questions.specs.declared.States.TheVariants as states
-use Rattle.questions.specs.declared.Relative.{Relative}
-use Rattle.questions.specs.declared.Relative.TheVariants as relative
-use Rattle.questions.specs.declared.Version.{Version}
-use Rattle.questions.specs.declared.Version.TheVariants as version
-use Rattle.questions.specs.declared.Property.{Property}
-use Rattle.questions.specs.declared.Property.TheVariants as property
-use Rattle.questions.specs.declared.Held.{Held}
-use Rattle.questions.specs.declared.Held.TheVariants as held
-use Rattle.questions.specs.declared.Time.{Time}
-use Rattle.questions.specs.declared.Time.TheVariants as time
+use Rattle.table.specs.declared.Error.{Error}
+use Rattle.table.specs.Outcome.{said}
 use Rattle.questions.specs.Meaning.{says_number, says_id, says_states, says_relative, says_version, says_property, says_held, says_time}
 use Rattle.reply.specs.Reply.{Reply, is_set, telling, refusal_number}
-use Rattle.reply.specs.Files.{show_checked, show_reading, step_reply, show_written}
-use Rattle.reply.specs.Judgements.{show_topic, show_flag}
+use Rattle.reply.specs.Files.{show_count, show_checked, show_reading, step_reply, show_written}
+use Rattle.reply.specs.Judgements.{show_topic, show_flag, show_form}
 use Rattle.reply.specs.Descriptions.{entry_at, unless_told, show_description, show_declared}
 use Rattle.reply.specs.Strings.{said_at, string_from, string_in, show_string}
-use Rattle.reply.specs.Answers.{outcome_number, show_offer, show_number, show_id, show_states, show_relative, show_version, show_property, show_held, show_time}
+use Rattle.std.specs.Prelude.{Result, Ok, Err}
+use Rattle.answer.specs.declared.Refused.{Refused}
+use Rattle.answer.specs.Refused.{says}
+use Rattle.rules.specs.Questions as value
+use Rattle.reply.specs.Answers.{shows as shown_by, outcome_number, show_offer, show_number, show_id, show_states, show_relative, show_version, show_property, show_held, show_time}
 use Rattle.viewer.specs.Calls as calls
 use Rattle.viewer.proofs.Passing.{did-set, opened-passes}
 
@@ -139,10 +119,10 @@ unfolding said_at
 said-set k (whole t) = refl
 said-set k (half p) = refl
 
-from-set : (s : List ℕ) (k : ℕ) (r : Scan) → Passes not_zero (string_from s k r)
+from-set : (s : List ℕ) (k : ℕ) (r : Result ℕ ℕ) → Passes not_zero (string_from s k r)
 unfolding string_from
-from-set s k (End e) = said-set k (decoded_at s k)
-from-set s k (Bad e) = refl
+from-set s k (Ok e) = said-set k (decoded_at s k)
+from-set s k (Err e) = refl
 
 string-set : (s : List ℕ) (k : ℕ) → Passes not_zero (string_in s k)
 unfolding string_in
@@ -150,38 +130,42 @@ string-set s k = both (leb (length s) 8192) (λ e. rw (e, string_in) (from-set s
 
 -- ---- what is shown of an answer has its number
 
-checked-number : (a : Checked) → (show_checked a).number ≡ refusal_number (meaning_checked a)
-unfolding show_checked meaning_checked refusal_number telling
-checked-number (checks.Count n) = refl
-checked-number (checks.Refused k) = refl
+checked-number : (a : Result ℕ Refused) → (show_checked a).number ≡ refusal_number (meaning_checked a)
+unfolding show_count meaning_checked refusal_number telling
+checked-number (Ok n) = refl
+checked-number (Err k) = refl
 
-reading-number : (f : List ℕ) (a : Reading) → (show_reading a).number ≡ refusal_number (meaning_reading f a)
+reading-number : (f : List ℕ) (a : Result EventAt Refused) → (show_reading a).number ≡ refusal_number (meaning_reading f a)
 unfolding show_reading meaning_reading refusal_number telling
-reading-number f (reading.Found e) = refl
-reading-number f (reading.Refused k) = refl
+reading-number f (Ok e) = refl
+reading-number f (Err k) = refl
 
-step-number : (f : List ℕ) (a : Reading) (place : ℕ) → (step_reply a place).number ≡ refusal_number (meaning_reading f a)
+step-number : (f : List ℕ) (a : Result EventAt Refused) (place : ℕ) → (step_reply a place).number ≡ refusal_number (meaning_reading f a)
 unfolding step_reply meaning_reading refusal_number telling
-step-number f (reading.Found e) place = refl
-step-number f (reading.Refused k) place = refl
+step-number f (Ok e) place = refl
+step-number f (Err k) place = refl
 
-written-number : (a : Written) → (show_written a).number ≡ refusal_number (meaning_written a)
-unfolding show_written meaning_written refusal_number telling
-written-number (writing.Length n) = refl
-written-number (writing.Refused k) = refl
+written-number : (a : Result ℕ Refused) → (show_written a).number ≡ refusal_number (meaning_written a)
+unfolding show_count meaning_written refusal_number telling
+written-number (Ok n) = refl
+written-number (Err k) = refl
 
-topic-number : (t : List ℕ) (a : Topic) → (show_topic a).number ≡ refusal_number (topics.meaning t a)
-unfolding show_topic topics.meaning refusal_number telling
-topic-number t (topic.Refused k) = refl
-topic-number t (State d) = refl
-topic-number t (Description d) = refl
-topic-number t (Value d n p) = refl
-topic-number t (Set d n p) = refl
-topic-number t (Target d n p) = refl
-topic-number t (Alert d a) = refl
-topic-number t (Log d l) = refl
-topic-number t (Broadcast ids) = refl
-topic-number t (Other d w ls) = refl
+form-number : (t : Topic) → (show_form t).number ≡ 0
+unfolding show_form
+form-number (State d) = refl
+form-number (Description d) = refl
+form-number (Value d n p) = refl
+form-number (Set d n p) = refl
+form-number (Target d n p) = refl
+form-number (Alert d a) = refl
+form-number (Log d l) = refl
+form-number (Broadcast ids) = refl
+form-number (Other d w ls) = refl
+
+topic-number : (t : List ℕ) (a : Result Topic Refused) → (show_topic a).number ≡ refusal_number (topics.meaning t a)
+unfolding show_topic refusal_number telling
+topic-number t (Ok f) = form-number f
+topic-number t (Err r) = refl
 
 flag-number : (a : Answer Form) → (show_flag a).number ≡ refusal_number a
 unfolding show_flag refusal_number telling
@@ -193,83 +177,39 @@ unfolding show_string refusal_number telling
 string-number (refused k) = refl
 string-number (gives t) = refl
 
-outcome-number : (a : Outcome) → outcome_number a ≡ refusal_number (said a)
+outcome-number : (a : Result Unit Error) → outcome_number a ≡ refusal_number (said a)
 unfolding outcome_number refusal_number telling
-outcome-number outcome.Taken = refl
-outcome-number (outcome.Refused k) = refl
-outcome-number (outcome.Faulty k p) = refl
+outcome-number (Ok u) = refl
+outcome-number (Err e) = refl
 
-offer-number : (a : Offer) → (show_offer a).number ≡ refusal_number (offer a)
-unfolding show_offer refusal_number telling
-offer-number (offers.Steps n) = refl
-offer-number (offers.Refused k) = refl
-
-number-number : (a : Number) → (show_number a).number ≡ refusal_number (says_number a)
-unfolding show_number says_number refusal_number telling
-number-number (number.Is n) = refl
-number-number (number.Refused k) = refl
-
-id-number : (m : List ℕ) (a : Id) → (show_id a).number ≡ refusal_number (says_id m a)
-unfolding show_id says_id refusal_number telling
-id-number m (id.At p) = refl
-id-number m (id.Refused k) = refl
-
-states-number : (a : States) → (show_states a).number ≡ refusal_number (says_states a)
-unfolding show_states says_states refusal_number telling
-states-number (states.Are o e t) = refl
-states-number (states.Refused k) = refl
-
-relative-number : (m : List ℕ) (a : Relative) → (show_relative a).number ≡ refusal_number (says_relative m a)
-unfolding show_relative says_relative refusal_number telling
-relative-number m relative.Nothing = refl
-relative-number m (relative.At p) = refl
-relative-number m (relative.Refused k) = refl
-
-version-number : (a : Version) → (show_version a).number ≡ refusal_number (says_version a)
-unfolding show_version says_version refusal_number telling
-version-number version.Nothing = refl
-version-number (version.Is v) = refl
-version-number (version.Refused k) = refl
-
-property-number : (m : List ℕ) (a : Property) → (show_property a).number ≡ refusal_number (says_property m a)
-unfolding show_property says_property refusal_number telling
-property-number m (property.Is n i d f s r) = refl
-property-number m (property.Refused k) = refl
-
-held_number : (m : List ℕ) (a : Held) → (show_held a).number ≡ refusal_number (says_held m a)
-unfolding show_held says_held refusal_number telling
-held_number m held.Empty = refl
-held_number m (held.Holds t p) = refl
-held_number m (held.Refused k) = refl
-
-time-number : (a : Time) → (show_time a).number ≡ refusal_number (says_time a)
-unfolding show_time says_time refusal_number telling
-time-number time.Never = refl
-time-number (time.At t) = refl
-time-number (time.Refused k) = refl
+-- an answer of the table, whatever it says and shows
+answer-number : {A : Type 0} (show : A → List ℕ) (say : A → value.Value) (a : Result A Refused) → (shown_by show a).number ≡ refusal_number (says say a)
+unfolding refusal_number telling
+answer-number show say (Ok x) = refl
+answer-number show say (Err r) = refl
 
 -- ---- descriptions: a taken one has its list of properties
 
 module _ (own s : List ℕ) (d : declared.Description) (e : descriptions.meaning s d ≡ describe own s) where
   -- by what is told
-  by-told : {X : Type 0} (t : Told) → d.told ≡ t → (d.told ≡ Nothing → X) → ((p n : ℕ) → d.told ≡ At p n → X) → X
-  by-told Nothing g f h = f g
-  by-told (At p n) g f h = h p n g
+  by-told : {X : Type 0} (t : Option Fault) → d.told ≡ t → (d.told ≡ None → X) → ((x : Fault) → d.told ≡ Some x → X) → X
+  by-told None g f h = f g
+  by-told (Some x) g f h = h x g
 
-  described-taken : d.told ≡ Nothing → descriptions.meaning s d ≡ gives (described_in s (ws s 0))
+  described-taken : d.told ≡ None → descriptions.meaning s d ≡ gives (described_in s (ws s 0))
   described-taken t = e ∙ taken own s d e t
 
-  described-not : {p n : ℕ} → d.told ≡ At p n → descriptions.meaning s d ≡ refused (placed n p)
+  described-not : {x : Fault} → d.told ≡ Some x → descriptions.meaning s d ≡ refused (placed (fault_number x.kind) x.place)
   described-not t = e ∙ not_taken own s d e t
 
-  unless-told : {t : Told} → d.told ≡ t → (x : Reply) → (unless_told d.told x).number ≡ (unless_told t x).number
-  unless-told e x = ap (λ (t : Told). (unless_told t x).number) e
+  unless-told : {t : Option Fault} → d.told ≡ t → (x : Reply) → (unless_told d.told x).number ≡ (unless_told t x).number
+  unless-told e x = ap (λ (t : Option Fault). (unless_told t x).number) e
 
   description-number : (show_description d).number ≡ refusal_number (descriptions.meaning s d)
   unfolding show_description unless_told refusal_number
   description-number = by-told d.told refl
       (λ t. unless-told t _ ∙ sym (ap refusal_number (described-taken t)))
-      (λ p n t. unless-told t _ ∙ sym (ap refusal_number (described-not t)))
+      (λ x t. unless-told t _ ∙ sym (ap refusal_number (described-not t)))
 
   entry-number : (es : List Entry) (i : ℕ) → (entry_at s es i).number ≡ refusal_number (at i (contents s es))
   unfolding entry_at at contents refusal_number telling
@@ -286,11 +226,12 @@ module _ (own s : List ℕ) (d : declared.Description) (e : descriptions.meaning
       (λ t. unless-told t _ ∙ (entry-number (take d.properties.n d.properties.items) i
       ∙ ap (λ (ps : List properties.Property). refusal_number (at i ps)) (shows s d (described_in s (ws s 0)) (described-taken t)).properties
       ∙ sym (ap (λ (a : Answer Described). refusal_number (nth_of i a)) (described-taken t))))
-      (λ p n t. unless-told t _ ∙ sym (ap (λ (a : Answer Described). refusal_number (nth_of i a)) (described-not t)))
+      (λ x t. unless-told t _ ∙ sym (ap (λ (a : Answer Described). refusal_number (nth_of i a)) (described-not t)))
 
 -- ---- every call
 
 returned : {A B : Type 0} {Promised : A → Type 0} {n : A → ℕ} {says : A → Answer B} → calls.NumberedCall A B Promised n says → (a : A) → Promised a → Right (n a) (says a)
+unfolding show_offer show_number show_id show_states show_relative show_version show_property show_held show_time says_number says_id says_states says_relative says_version says_property says_held says_time
 returned (calls.trace_check f) a p = record { same = checked-number a; proper = as_paper p (checked-set f) }
 returned (calls.trace-read f i) a p = record { same = reading-number f a; proper = as_paper p.answer (read_set f i) }
 returned (calls.trace-next f place) a p = record { same = step-number f a.reading a.at; proper = as_paper p.reading.answer (read_set f place) }
@@ -305,17 +246,17 @@ returned (calls.description-string s k) a p = record { same = string-number a; p
 returned (calls.opening m domain d j m') a p = record { same = outcome-number a; proper = as_paper p.answered (opened-passes not_zero (is_openable domain d j (length m)) refl) }
 returned (calls.message m time t r s m') a p = record { same = outcome-number a; proper = did-set p }
 returned (calls.step_back m m') a p = record { same = outcome-number a; proper = did-set p }
-returned (calls.device-count m) a p = record { same = number-number a; proper = did-set p }
-returned (calls.device_at m i) a p = record { same = id-number m a; proper = did-set p.did }
-returned (calls.states m i) a p = record { same = states-number a; proper = did-set p }
-returned (calls.root m i) a p = record { same = relative-number m a; proper = did-set p.did }
-returned (calls.parent m i) a p = record { same = relative-number m a; proper = did-set p.did }
-returned (calls.version m i) a p = record { same = version-number a; proper = did-set p }
-returned (calls.values_held m i) a p = record { same = number-number a; proper = did-set p }
-returned (calls.property m i k) a p = record { same = property-number m a; proper = did-set p.did }
-returned (calls.lane m i n q k) a p = record { same = held_number m a; proper = did-set p.did }
-returned (calls.last-time m) a p = record { same = time-number a; proper = did-set p }
-returned (calls.steps m) a p = record { same = offer-number a; proper = did-set p }
+returned (calls.device-count m) a p = record { same = answer-number _ _ a; proper = did-set p }
+returned (calls.device_at m i) a p = record { same = answer-number _ _ a; proper = did-set p.did }
+returned (calls.states m i) a p = record { same = answer-number _ _ a; proper = did-set p }
+returned (calls.root m i) a p = record { same = answer-number _ _ a; proper = did-set p.did }
+returned (calls.parent m i) a p = record { same = answer-number _ _ a; proper = did-set p.did }
+returned (calls.version m i) a p = record { same = answer-number _ _ a; proper = did-set p }
+returned (calls.values_held m i) a p = record { same = answer-number _ _ a; proper = did-set p }
+returned (calls.property m i k) a p = record { same = answer-number _ _ a; proper = did-set p.did }
+returned (calls.lane m i n q k) a p = record { same = answer-number _ _ a; proper = did-set p.did }
+returned (calls.last-time m) a p = record { same = answer-number _ _ a; proper = did-set p }
+returned (calls.steps m) a p = record { same = answer-number _ _ a; proper = did-set p }
 
 pub zero-answers : {A B : Type 0} {Promised : A → Type 0} {n : A → ℕ} {says : A → Answer B} → calls.NumberedCall A B Promised n says → (a : A) → Promised a → (n a ≡ 0) ↔ ((r : Refusal) → says a ≡ refused r → ⊥)
 zero-answers c a p = right (returned c a p)

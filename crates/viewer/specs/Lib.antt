@@ -1,4 +1,3 @@
 pub mod Lanes
 pub mod Promises
 pub mod Calls
-pub mod Parts

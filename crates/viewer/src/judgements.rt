@@ -64,8 +64,8 @@ pub extern "C" fn homie5_description_judge(own: &[u8], text: &[u8]) -> u32
     ensures { result ≡ refusal_number (describe own.now text.now) }
 {
     match description::judge(own, text) {
-        faults::Told::Nothing => 0,
-        faults::Told::At(place, k) => reply::refusal_code(k, place),
+        None => 0,
+        Some(fault) => reply::refusal_code(fault.kind.number(), fault.place),
     }
 }
 

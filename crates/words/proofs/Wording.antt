@@ -7,21 +7,11 @@ use Rattle.text.specs.Ascii.{ascii}
 use Rattle.lines.specs.Number.{decimal_text}
 use Rattle.lines.specs.Out.{Puts, Adds}
 use Rattle.lines.proofs.Adding.{put-adds, adds_then}
-use Rattle.payload.specs.declared.Datatype.{Datatype}
-use Rattle.payload.specs.Datatypes.{name_of}
-use Rattle.rules.specs.declared.DeviceState.{DeviceState}
-use Rattle.rules.specs.States.{word_of}
 use Rattle.words.specs.Words.{refusal, refusal_at, signed}
 
 -- the same text by another name
 pub put_same : {d d' t u : List ℕ} {at r : ℕ} → t ≡ u → Puts d at t r d' → Puts d at u r d'
 put_same e p = rw e at p
-
-pub put-state : {d d' : List ℕ} {at r : ℕ} {s : DeviceState} (x : DeviceState) → s ≡ x → Puts d at (word_of x) r d' → Puts d at (word_of s) r d'
-put-state x e p = rw e p
-
-pub put-datatype : {d d' : List ℕ} {at r : ℕ} {s : Datatype} (x : Datatype) → s ≡ x → Puts d at (name_of x) r d' → Puts d at (name_of s) r d'
-put-datatype x e p = rw e p
 
 pub adds-refusal : {d d' d'' : List ℕ} {r r' : ℕ} (n : ℕ) → Puts d 0 (ascii "refused ") r d' → Puts d' r (decimal_text n) r' d'' → Adds d 0 (refusal n) r' d''
 unfolding refusal

@@ -1,6 +1,7 @@
 // What a table answers, as words of a line.
 #![tactic(auto)]
 
+ghost use Rattle.std.specs.Prelude.{◌≡◌};
 ghost use Rattle.lines.specs.Hex.{hex_of};
 ghost use Rattle.lines.specs.Out.{Puts, Adds};
 ghost use Rattle.payload.specs.Datatypes.{name_of};
@@ -12,32 +13,46 @@ use payload::Datatype;
 use rules::DeviceState;
 use text::Place;
 
+// The word of a state.
+fn state_word(s: DeviceState) -> &'static [u8]
+    ensures { result.now ≡ word_of s }
+{
+    match s {
+        DeviceState::Init => b"init",
+        DeviceState::Ready => b"ready",
+        DeviceState::Disconnected => b"disconnected",
+        DeviceState::Sleeping => b"sleeping",
+        DeviceState::Lost => b"lost",
+    }
+}
+
 pub fn state(out: &mut [u8], at: usize, s: DeviceState) -> usize
     ensures { Puts out.old at (word_of s) result out.new }
 {
-    match s {
-        DeviceState::Init => lines::out::put(out, at, b"init"),
-        DeviceState::Ready => lines::out::put(out, at, b"ready"),
-        DeviceState::Disconnected => lines::out::put(out, at, b"disconnected"),
-        DeviceState::Sleeping => lines::out::put(out, at, b"sleeping"),
-        DeviceState::Lost => lines::out::put(out, at, b"lost"),
+    lines::out::put(out, at, state_word(s))
+}
+
+// The name of a datatype.
+fn datatype_name(d: Datatype) -> &'static [u8]
+    ensures { result.now ≡ name_of d }
+{
+    match d {
+        Datatype::String => b"string",
+        Datatype::Integer => b"integer",
+        Datatype::Float => b"float",
+        Datatype::Boolean => b"boolean",
+        Datatype::Enum => b"enum",
+        Datatype::Color => b"color",
+        Datatype::Datetime => b"datetime",
+        Datatype::Duration => b"duration",
+        Datatype::Json => b"json",
     }
 }
 
 pub fn datatype(out: &mut [u8], at: usize, d: Datatype) -> usize
     ensures { Puts out.old at (name_of d) result out.new }
 {
-    match d {
-        Datatype::String => lines::out::put(out, at, b"string"),
-        Datatype::Integer => lines::out::put(out, at, b"integer"),
-        Datatype::Float => lines::out::put(out, at, b"float"),
-        Datatype::Boolean => lines::out::put(out, at, b"boolean"),
-        Datatype::Enum => lines::out::put(out, at, b"enum"),
-        Datatype::Color => lines::out::put(out, at, b"color"),
-        Datatype::Datetime => lines::out::put(out, at, b"datetime"),
-        Datatype::Duration => lines::out::put(out, at, b"duration"),
-        Datatype::Json => lines::out::put(out, at, b"json"),
-    }
+    lines::out::put(out, at, datatype_name(d))
 }
 
 // The bytes at a place, as they are.

@@ -3,4 +3,4 @@ use Rattle.text.proofs.Split.{is_part}
 use Rattle.calls.proofs.before.Goals as goal
 
 pub loop-at-smaller : goal.loop-at-smaller
-loop-at-smaller g c = let p = is_part _ _ _ _ _ _ c.in-Found.ensures in omega arith
+loop-at-smaller g c = let p = is_part _ _ _ _ _ _ c.in-Some.ensures in omega arith

@@ -1,16 +1,10 @@
-use mathlib.Core.Path.{sym, ◌∙◌}
-use Rattle.description.proofs.Device.{digits-end, digits_low, digits-high, digits_more}
+use mathlib.Core.Path.{◌∙◌}
 use borrow.Author.Rules.{rules}
+use Rattle.std.proofs.lemmas.Iterator.{YieldsList-from_slice}
+use Rattle.std.proofs.lemmas.Iterator.Search.{all_from_yields_List}
+use Rattle.numbers.specs.Digits.{is_digit}
+use Rattle.description.proofs.Device.{each-digit}
 use Rattle.description.proofs.are_digits.Goals as goal
 
-pub returns-then-t-i-lt48 : goal.returns-then-t-i-lt48
-returns-then-t-i-lt48 c = sym (digits_low _ _ c.loop-i-test.true c.if-t-i-lt48.true) ∙ c.loop-i.invariant.1
-
-pub returns-then-t-i-gt57 : goal.returns-then-t-i-gt57
-returns-then-t-i-gt57 c = sym (digits-high _ _ c.loop-i-test.true c.if-t-i-gt57.true) ∙ c.loop-i.invariant.1
-
-pub loop-i-preserved : goal.loop-i-preserved
-loop-i-preserved c = (search rules, digits_more _ _ c.loop-i-test.true c.if-t-i-lt48.false c.if-t-i-gt57.false ∙ c.loop-i.invariant.1)
-
 pub returns : goal.returns
-returns c = sym (digits-end _ _ c.loop-i-test.false) ∙ c.loop-i.invariant.1
+returns c = all_from_yields_List is_digit _ _ _ c.all.ensures.ran (YieldsList-from_slice c.args.t.now cc) (λ x b q k. search rules) ∙ each-digit _

@@ -6,12 +6,7 @@ use Rattle.device.proofs.properties.Goals as goal
 pub returns-then-not-is_set : goal.returns-then-not-is_set
 returns-then-not-is_set c = length_none c.args.room.now (told c.is_set.ensures c.if-not-is_set.true)
 
-pub returns-then-n-lt-PROPERTIES_MOST : goal.returns-then-n-lt-PROPERTIES_MOST
-returns-then-n-lt-PROPERTIES_MOST c =
+pub returns : goal.returns
+returns c =
     let h = length-all c.args.room.now (told c.is_set.ensures c.if-not-is_set.false) in
-    omega arith
-
-pub returns-else-n-lt-PROPERTIES_MOST : goal.returns-else-n-lt-PROPERTIES_MOST
-returns-else-n-lt-PROPERTIES_MOST c =
-    let h = length-all c.args.room.now (told c.is_set.ensures c.if-not-is_set.false) in
-    omega arith
+    omega (arith, h, c.min.ensures, c.byte.ensures)

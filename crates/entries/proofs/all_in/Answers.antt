@@ -1,22 +1,11 @@
-use Prim.Native.Nat.{ℕ}
-use mathlib.Core.List.{List}
-use mathlib.Core.Path.{sym, ap, ◌∙◌}
-use native.Mathlib.Omega.{arith}
-use Rattle.entries.specs.Entries.{entries_of, all_in}
-use Rattle.entries.proofs.From.{from_all, out-here, in-here, all_found}
-use borrow.Author.Rules.{rules}
+use Rattle.std.proofs.Common.{rules, tests, nat_eq, ◌∙◌}
+use Rattle.std.proofs.lemmas.Iterator.Splits.{YieldsList-from_slice_split}
+use Rattle.std.proofs.lemmas.Iterator.Search.{all_from_yields_List}
+use Rattle.entries.specs.Entries.{is_in, entries_of}
+use Rattle.entries.proofs.From.{each_among}
 use Rattle.entries.proofs.all_in.Goals as goal
 
-pub loop-i-init : goal.loop-i-init
-loop-i-init c = (omega arith, ap (λ (l : List (List ℕ)). all_in l (entries_of c.args.of.now)) (from_all c.args.s.now))
-
-pub returns-then-not-has : goal.returns-then-not-has
-returns-then-not-has c =
-    let s = c.args.s.now in sym (c.loop-i.invariant.1 ∙ out-here s c.loop-i.i c.entry_end-e.result c.loop-i-test.true c.entry_end-e.ensures (entries_of c.args.of.now) c.has.ensures c.if-not-has.true)
-
-pub loop-i-preserved : goal.loop-i-preserved
-loop-i-preserved c =
-    let s = c.args.s.now in (search rules, c.loop-i.invariant.1 ∙ in-here s c.loop-i.i c.entry_end-e.result c.loop-i-test.true c.entry_end-e.ensures (entries_of c.args.of.now) c.has.ensures c.if-not-has.false)
-
 pub returns : goal.returns
-returns c = sym (c.loop-i.invariant.1 ∙ all_found c.args.s.now c.loop-i.i c.loop-i-test.false (entries_of c.args.of.now))
+returns c =
+    all_from_yields_List (λ l. is_in l (entries_of c.args.of.now)) _ _ c.all.result c.all.ensures.ran (YieldsList-from_slice_split _ (λ b. nat_eq b 44) c.args.s.now c.split.ensures.rest c.split.ensures.done c.split.ensures.closure (λ x b q k. search (rules, tests))) (λ x b q k. search (rules, tests))
+    ∙ each_among c.args.s.now (entries_of c.args.of.now)

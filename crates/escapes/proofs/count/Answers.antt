@@ -1,4 +1,3 @@
-use native.Mathlib.Omega.{arith}
 use Rattle.escapes.proofs.Walk.{stepped, stopped, over}
 use Rattle.escapes.proofs.Loops.{counting, count-stop, count-over, count-more}
 use Rattle.escapes.proofs.count.Goals as goal
@@ -11,10 +10,6 @@ returns-in-Stop c = count-stop c.loop-p.invariant (stopped _ _ _ c.loop-p.invari
 
 pub returns-in-Over : goal.returns-in-Over
 returns-in-Over c = count-over c.loop-p.invariant (over _ _ _ c.loop-p.invariant.place c.next_byte.ensures c.in-Over.is)
-
-pub overflow_add-n : goal.overflow_add-n
-overflow_add-n c =
-    let w = stepped _ _ _ c.loop-p.invariant.place c.next_byte.ensures c.in-Byte.is in omega (arith, w.far, w.place.room, c.loop-p.invariant.few)
 
 pub loop-p-smaller : goal.loop-p-smaller
 loop-p-smaller c = (stepped _ _ _ c.loop-p.invariant.place c.next_byte.ensures c.in-Byte.is).less

@@ -5,9 +5,6 @@ use Rattle.escapes.proofs.escape_of.Goals as goal
 pub returns-then-b-ne117 : goal.returns-then-b-ne117
 returns-then-b-ne117 c = short-made _ c.peek-b.ensures c.if-b-ne117.true c.short.ensures
 
-pub pair_after-requires : goal.pair_after-requires
-pair_after-requires c = sym c.is_high.ensures ∙ c.if-is_high.true
-
 pub returns-then-is_high : goal.returns-then-is_high
 returns-then-is_high c = high-made _ c.peek-b.ensures c.if-b-ne117.false c.code_unit-u.ensures (sym c.is_high.ensures ∙ c.if-is_high.true) c.pair_after.ensures
 

@@ -1,30 +1,30 @@
 use Rattle.escapes.proofs.Walk.{stepped, stopped, over}
-use Rattle.escapes.proofs.Orders.{racing, race_no, race-none, race-end, race-short, race_differs, race-more}
+use Rattle.escapes.proofs.Orders.{racing, race_no, race-late, race-short, race_differs, race-more}
 use Rattle.escapes.proofs.write_before.Goals as goal
 
-pub loop-y-init : goal.loop-y-init
-loop-y-init c = racing _ _ c.requires.0 c.requires.1
-
-pub returns-in-Stop : goal.returns-in-Stop
-returns-in-Stop c = race-none c.loop-y.invariant (stopped _ _ _ c.loop-y.invariant.second c.next_byte.ensures c.in-Stop.is)
-
-pub returns-in-Over : goal.returns-in-Over
-returns-in-Over c = race-end c.loop-y.invariant (over _ _ _ c.loop-y.invariant.second c.next_byte.ensures c.in-Over.is)
-
-pub returns-in-Stop-next_byte : goal.returns-in-Stop-next_byte
-returns-in-Stop-next_byte c = race_no c.loop-y.invariant (stopped _ _ _ c.loop-y.invariant.first c.next_byte-in-Byte.ensures c.in-Stop-next_byte.is)
-
-pub returns-in-Over-next_byte : goal.returns-in-Over-next_byte
-returns-in-Over-next_byte c =
-    race-short c.loop-y.invariant (stepped _ _ _ c.loop-y.invariant.second c.next_byte.ensures c.in-Byte.is) (over _ _ _ c.loop-y.invariant.first c.next_byte-in-Byte.ensures c.in-Over-next_byte.is)
+pub loop-x-init : goal.loop-x-init
+loop-x-init c = racing _ _ c.requires.0 c.requires.1
 
 pub returns-then-x-y : goal.returns-then-x-y
 returns-then-x-y c =
-    race_differs c.loop-y.invariant (stepped _ _ _ c.loop-y.invariant.second c.next_byte.ensures c.in-Byte.is) (stepped _ _ _ c.loop-y.invariant.first c.next_byte-in-Byte.ensures c.in-Byte-next_byte.is) c.if-x-y.true
+    race_differs c.loop-x.invariant (stepped _ _ _ c.loop-x.invariant.second c.next_byte-in-loop-x.ensures c.in-Byte-Byte.is-1) (stepped _ _ _ c.loop-x.invariant.first c.next_byte.ensures c.in-Byte-Byte.is-0) c.if-x-y.true
 
-pub loop-y-smaller : goal.loop-y-smaller
-loop-y-smaller c = (stepped _ _ _ c.loop-y.invariant.first c.next_byte-in-Byte.ensures c.in-Byte-next_byte.is).less
+pub loop-x-smaller : goal.loop-x-smaller
+loop-x-smaller c = (stepped _ _ _ c.loop-x.invariant.first c.next_byte.ensures c.in-Byte-Byte.is-0).less
 
-pub loop-y-preserved : goal.loop-y-preserved
-loop-y-preserved c =
-    race-more c.loop-y.invariant (stepped _ _ _ c.loop-y.invariant.second c.next_byte.ensures c.in-Byte.is) (stepped _ _ _ c.loop-y.invariant.first c.next_byte-in-Byte.ensures c.in-Byte-next_byte.is) c.if-x-y.false
+pub loop-x-preserved : goal.loop-x-preserved
+loop-x-preserved c =
+    race-more c.loop-x.invariant (stepped _ _ _ c.loop-x.invariant.second c.next_byte-in-loop-x.ensures c.in-Byte-Byte.is-1) (stepped _ _ _ c.loop-x.invariant.first c.next_byte.ensures c.in-Byte-Byte.is-0) c.if-x-y.false
+
+pub returns-in-Over-Byte : goal.returns-in-Over-Byte
+returns-in-Over-Byte c =
+    race-short c.loop-x.invariant (stepped _ _ _ c.loop-x.invariant.second c.next_byte-in-loop-x.ensures c.in-Over-Byte.is-1) (over _ _ _ c.loop-x.invariant.first c.next_byte.ensures c.in-Over-Byte.is-0)
+
+pub returns-in_default : goal.returns-in_default
+returns-in_default c = race-late c.loop-x.invariant _ c.next_byte-in-loop-x.ensures c.in_default.not-Byte-1
+
+pub returns-in_default-2 : goal.returns-in_default-2
+returns-in_default-2 c = race-late c.loop-x.invariant _ c.next_byte-in-loop-x.ensures c.in_default.not-Byte-1
+
+pub returns-in_default-3 : goal.returns-in_default-3
+returns-in_default-3 c = race_no c.loop-x.invariant (stopped _ _ _ c.loop-x.invariant.first c.next_byte.ensures c.in_default.is-0)

@@ -1,14 +1,11 @@
-use Rattle.faults.proofs.Laws.{first-none, second_none, first-earlier, second-earlier}
+use Rattle.faults.proofs.Laws.{none_first, one_alone, lesser_first}
 use Rattle.faults.proofs.earlier.Goals as goal
 
-pub returns-then-is_earlier : goal.returns-then-is_earlier
-returns-then-is_earlier c = first-earlier c.in-At.is c.in-At-b.is c.is_earlier.ensures c.if-is_earlier.true
+pub returns-in-Some-Some : goal.returns-in-Some-Some
+returns-in-Some-Some c = lesser_first c.in-Some-Some.is-0 c.in-Some-Some.is-1 c.min.ensures
 
-pub returns-in-Nothing : goal.returns-in-Nothing
-returns-in-Nothing c = first-none c.in-Nothing.is
+pub returns-in-Some-None : goal.returns-in-Some-None
+returns-in-Some-None c = one_alone c.in-Some-None.is-0 c.in-Some-None.is-1
 
-pub returns-in-Nothing-b : goal.returns-in-Nothing-b
-returns-in-Nothing-b c = second_none c.in-At.is c.in-Nothing-b.is
-
-pub returns-else-is_earlier : goal.returns-else-is_earlier
-returns-else-is_earlier c = second-earlier c.in-At.is c.in-At-b.is c.is_earlier.ensures c.if-is_earlier.false
+pub returns-in-None-default : goal.returns-in-None-default
+returns-in-None-default c = none_first c.in-None-default.is-0

@@ -9,8 +9,8 @@ use Rattle.fields.specs.Parts.{item_faults}
 use Rattle.fields.proofs.Walk.{Telling}
 use Rattle.fields.proofs.array_told.Given as goal
 
-abbrev pub invariant-loop-told : goal.invariant-loop-told
-invariant-loop-told l = Ends l.s l.ends → Telling (element_at l.s) (λ m. item_faults l.ids l.s m.value) (length l.s) l.told l.i (least (among (λ m. item_faults l.ids l.s m.value) (elements l.s l.at)))
+abbrev pub invariant-loop-element : goal.invariant-loop-element
+invariant-loop-element l = Ends l.s l.ends → Telling (element_at l.s) (λ m. item_faults l.ids l.s m.value) (length l.s) l.told l.i (least (among (λ m. item_faults l.ids l.s m.value) (elements l.s l.at)))
 
-abbrev pub decreases-loop-told : goal.decreases-loop-told
-decreases-loop-told l = length l.s - l.i
+abbrev pub decreases-loop-element : goal.decreases-loop-element
+decreases-loop-element l = length l.s - l.i

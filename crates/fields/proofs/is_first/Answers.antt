@@ -1,8 +1,6 @@
-use Rattle.fields.proofs.Fields.{first_absent, first_at}
+use mathlib.Core.Path.{◌∙◌}
+use Rattle.fields.proofs.Fields.{first_is}
 use Rattle.fields.proofs.is_first.Goals as goal
 
-pub returns-in-Absent : goal.returns-in-Absent
-returns-in-Absent c = first_absent _ c.in-Absent.is
-
-pub returns-in-First : goal.returns-in-First
-returns-in-First c = first_at _ c.in-First.is
+pub returns : goal.returns
+returns c = c.eq.ensures ∙ first_is c.args.k c.args.f

@@ -1,9 +1,8 @@
-use borrow.Author.Tests.{not-true, not-false}
 use Rattle.handover.proofs.Handing.{judged_empty, judged}
 use Rattle.handover.proofs.still_valid.Goals as goal
 
-pub returns-then-not-lane : goal.returns-then-not-lane
-returns-then-not-lane c = judged_empty _ _ _ _ (not-true _ c.if-not-lane.true)
+pub returns-in-None : goal.returns-in-None
+returns-in-None c = judged_empty _ _ _ _ c.in-None.is
 
-pub returns : goal.returns
-returns c = judged c.args.image.now c.args.p c.args.old.now c.args.lane c.slice.result.now c.slice-2.result.now c.judge.result (not-false _ c.if-not-lane.false) c.slice.ensures c.slice-2.ensures c.judge.ensures
+pub returns-in-Some : goal.returns-in-Some
+returns-in-Some c = judged c.args.image.now c.args.p c.args.old.now c.args.lane c.in-Some.lane c.slice.result.now c.slice-in-Some.result.now c.judge.result c.in-Some.is c.slice.ensures c.slice-in-Some.ensures c.judge.ensures

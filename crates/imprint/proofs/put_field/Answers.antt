@@ -3,8 +3,8 @@ use Rattle.properties.proofs.Rules.{text-absent, text-first}
 use Rattle.imprint.proofs.Fields.{texted_as}
 use Rattle.imprint.proofs.put_field.Goals as goal
 
-pub returns-in-Absent : goal.returns-in-Absent
-returns-in-Absent c = texted_as (text-absent _ c.in-Absent.is) c.put_text.ensures
+pub returns-in-None : goal.returns-in-None
+returns-in-None c = texted_as (text-absent _ c.in-None.is) c.put_text.ensures
 
-pub returns-in-First : goal.returns-in-First
-returns-in-First c = texted_as (text-first _ c.in-First.is refl) c.put_string.ensures
+pub returns-in-Some : goal.returns-in-Some
+returns-in-Some c = texted_as (text-first _ c.in-Some.is refl) c.put_string.ensures

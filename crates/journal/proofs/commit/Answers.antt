@@ -1,6 +1,5 @@
 use Prim.Native.Nat.{◌+◌, ◌-◌}
 use native.Mathlib.Omega.{arith}
-use mathlib.Core.Path.{◌∙◌}
 use lib.ListN.{length-take, length-drop}
 use Rattle.journal.proofs.Whole.{committed-not}
 use Rattle.journal.proofs.Making as making
@@ -8,17 +7,6 @@ use Rattle.journal.proofs.commit.Goals as goal
 
 pub returns-then-not-able : goal.returns-then-not-able
 returns-then-not-able c = committed-not _ _ (c.able.ensures.1 c.if-not-able.true)
-
-pub save-requires : goal.save-requires
-save-requires c = making.able-less _ _ _ _ _ _ (c.able.ensures.0 c.if-not-able.false)
-
-pub overflow_add-end : goal.overflow_add-end
-overflow_add-end c =
-    omega (arith, making.room-inside _ _ c.args.from c.args.to c.args.offset _ c.args.bytes.now c.args.head.now (c.able.ensures.0 c.if-not-able.false) c.save.ensures c.room_start-start.ensures)
-
-pub slice_bounds-write-end : goal.slice_bounds-write-end
-slice_bounds-write-end c =
-    omega (arith, making.room-inside _ _ c.args.from c.args.to c.args.offset _ c.args.bytes.now c.args.head.now (c.able.ensures.0 c.if-not-able.false) c.save.ensures c.room_start-start.ensures)
 
 pub write-requires : goal.write-requires
 write-requires c =
@@ -32,12 +20,6 @@ settle-requires c =
     let d = making.same-capacity _ _ c.args.from c.args.to c.args.offset _ c.args.bytes.now c.args.head.now a c.save.ensures c.room_start-start.ensures c.write.new.mem n (omega arith) c.write.ensures in
     let l = making.same_length _ _ c.args.from c.args.to c.args.offset _ c.args.bytes.now c.args.head.now a c.save.ensures c.room_start-start.ensures c.write.new.mem n (omega arith) c.write.ensures in
     record { from_bound = (omega (arith, k, d), omega (arith, k, d)); mem_in_bounds = omega (arith, k, d, l) }
-
-pub shape_of-mem : goal.shape_of-mem
-shape_of-mem c =
-    let a = c.able.ensures.0 c.if-not-able.false in
-    let n = (c.room_start-start.result + 8192) - c.room_start-start.result in
-    c.settle.auto.mem ∙ making.same_length _ _ c.args.from c.args.to c.args.offset _ c.args.bytes.now c.args.head.now a c.save.ensures c.room_start-start.ensures c.write.new.mem n (omega arith) c.write.ensures ∙ c.save.auto.mem
 
 pub returns : goal.returns
 returns c =

@@ -5,12 +5,6 @@ use Rattle.journal.proofs.open.Goals as goal
 pub returns-then-not-openable : goal.returns-then-not-openable
 returns-then-not-openable c = opened-not _ _ _ _ (sym c.if-not-openable.true ∙ c.openable.ensures)
 
-pub lay-requires : goal.lay-requires
-lay-requires c = opens_facts _ _ _ _ (sym c.openable.ensures ∙ c.if-not-openable.false)
-
-pub shape_of-mem : goal.shape_of-mem
-shape_of-mem c = c.lay.auto.mem
-
 pub returns : goal.returns
 returns c =
     opened _ _ _ _ _ (opens_facts _ _ _ _ (sym c.openable.ensures ∙ c.if-not-openable.false)) c.lay.ensures (sym c.if-not-openable.false ∙ c.openable.ensures)

@@ -1,9 +1,9 @@
-use mathlib.Core.Path.{sym, ◌∙◌}
-use Rattle.json_text.proofs.Values.{container-bad, container-end}
+use mathlib.Core.Path.{◌∙◌}
+use Rattle.json_text.proofs.Values.{container-none, container-some}
 use Rattle.json_text.proofs.is_container.Goals as goal
 
-pub returns-in-Bad : goal.returns-in-Bad
-returns-in-Bad c = container-bad _ _ (sym c.mark.ensures.is ∙ c.in-Bad.is)
+pub returns-then-is_ok : goal.returns-then-is_ok
+returns-then-is_ok c = c.is_opening.ensures ∙ container-some _ c.mark.ensures.is c.is_ok.ensures.value c.if-is_ok.true c.skip.ensures.is c.peek.ensures
 
-pub returns-in-End : goal.returns-in-End
-returns-in-End c = c.is_opening.ensures ∙ container-end _ _ _ (sym c.mark.ensures.is ∙ c.in-End.is) c.skip.ensures.is c.peek.ensures
+pub returns-else-is_ok : goal.returns-else-is_ok
+returns-else-is_ok c = container-none _ c.mark.ensures.is c.is_ok.ensures.value c.if-is_ok.false

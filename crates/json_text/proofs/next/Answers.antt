@@ -8,5 +8,5 @@ overflow_add-j c = let h = comma-inside c.args.s.now _ _ c.skip-j.ensures c.peek
 pub returns-then-peek-eq44 : goal.returns-then-peek-eq44
 returns-then-peek-eq44 c = next_comma _ _ _ c.skip-j.ensures c.peek.ensures c.if-peek-eq44.true c.skip.ensures
 
-pub returns : goal.returns
-returns c = next-none _ _ _ c.skip-j.ensures c.peek.ensures c.if-peek-eq44.false
+pub returns-else-peek-eq44 : goal.returns-else-peek-eq44
+returns-else-peek-eq44 c = next-none _ _ _ c.skip-j.ensures c.peek.ensures c.if-peek-eq44.false

@@ -1,30 +1,15 @@
-use Rattle.json_text.proofs.Bytes.{passing, passing-more, ws-inside, ws_skipped}
-use Prim.Native.Nat.{◌<◌}
-use mathlib.Core.Path.{◌≡◌, ap, sym, ◌∙◌}
-use native.Mathlib.Omega.{arith}
-use lib.ListN.{length}
-use mathlib.Core.Bool.{true}
-use Rattle.json_text.specs.Bytes.{byte, is_ws}
+use mathlib.Core.Path.{refl}
+use Rattle.json_text.specs.Bytes.{is_ws, ws}
+use Rattle.json_text.proofs.Bytes.{passing-more, passing-stop, passing-out}
 use Rattle.json_text.proofs.skip.Goals as goal
 
--- the byte at i is white space, so it lies inside
-more : (c : goal.Then-is_ws) → is_ws (byte c.args.s.now c.loop-i.i) ≡ true
-more c = ap is_ws (sym c.peek.ensures) ∙ sym c.is_ws.ensures ∙ c.if-is_ws.true
-
-lies : (c : goal.Then-is_ws) → c.loop-i.i < length c.args.s.now
-lies c = ws-inside c.args.s.now _ (more c)
-
-pub loop-i-init : goal.loop-i-init
-loop-i-init c = passing _ _ _
-
-pub overflow_add-i : goal.overflow_add-i
-overflow_add-i c = omega (arith, lies c)
-
-pub loop-i-smaller : goal.loop-i-smaller
-loop-i-smaller c = omega (arith, lies c)
+pub returns-then-not-is_ws : goal.returns-then-not-is_ws
+unfolding ws
+returns-then-not-is_ws c = passing-stop c.loop-i.invariant c.loop-i-test.true c.from.ensures c.is_ws.ensures c.if-not-is_ws.true
 
 pub loop-i-preserved : goal.loop-i-preserved
-loop-i-preserved c = passing-more c.loop-i.invariant (lies c) (more c)
+loop-i-preserved c = passing-more c.loop-i.invariant c.loop-i-test.true c.from.ensures c.is_ws.ensures c.if-not-is_ws.false
 
-pub returns-else-is_ws : goal.returns-else-is_ws
-returns-else-is_ws c = ws_skipped c.loop-i.invariant (ap is_ws (sym c.peek.ensures) ∙ sym c.is_ws.ensures ∙ c.if-is_ws.false)
+pub returns : goal.returns
+unfolding ws is_ws
+returns c = passing-out c.loop-i.invariant refl c.loop-i-test.false c.max.ensures

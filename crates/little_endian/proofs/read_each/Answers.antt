@@ -30,7 +30,7 @@ overflow_add-v c =
 pub loop-j-preserved : goal.loop-j-preserved
 loop-j-preserved c =
     let a = c.args in
-    (search rules, get-step a.s.now a.at a.w c.loop-j.j c.loop-j.v c.wide.result (omega arith) (omega arith) (omega arith) c.loop-j.invariant.1 c.wide.ensures.0)
+    (search rules, get-step a.s.now a.at a.w c.loop-j.j c.loop-j.v c.from.result (omega arith) (omega arith) (omega arith) c.loop-j.invariant.1 c.from.ensures)
 
 pub returns : goal.returns
 returns c =

@@ -5,6 +5,3 @@ use Rattle.little_endian.proofs.read_each.Given as goal
 
 abbrev pub invariant-loop-j : goal.invariant-loop-j
 invariant-loop-j l = (l.j ≤ l.w) × (l.v ≡ num (l.w - l.j) (l.at + l.j) l.s)
-
-abbrev pub decreases-loop-j : goal.decreases-loop-j
-decreases-loop-j l = l.j

@@ -6,6 +6,3 @@ use Rattle.little_endian.proofs.write_each.Given as goal
 
 abbrev pub invariant-loop-j : goal.invariant-loop-j
 invariant-loop-j l = (l.j ≤ l.w) × (length l.d ≡ length l.initial.d) × (l.d ≡ put l.initial.d l.at (take l.j (le_bytes l.w l.x))) × (drop l.j (le_bytes l.w l.x) ≡ le_bytes (l.w - l.j) l.v)
-
-abbrev pub decreases-loop-j : goal.decreases-loop-j
-decreases-loop-j l = l.w - l.j

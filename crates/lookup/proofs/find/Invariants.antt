@@ -1,4 +1,4 @@
-use Prim.Native.Nat.{ℕ, ◌-◌}
+use Prim.Native.Nat.{ℕ}
 use mathlib.Core.List.{List}
 use Rattle.text.specs.Bytes.{eq_bytes}
 use Rattle.lookup.specs.Meaning.{means}
@@ -8,6 +8,3 @@ use Rattle.lookup.proofs.find.Given as goal
 
 abbrev pub invariant-loop-i : goal.invariant-loop-i
 invariant-loop-i l = Passed (by_id (λ (s : List ℕ). eq_bytes s l.id)) (means l.mem).now.devices l.i
-
-abbrev pub decreases-loop-i : goal.decreases-loop-i
-decreases-loop-i l = l.n - l.i

@@ -1,11 +1,8 @@
-use Prim.Native.Nat.{ℕ, ◌-◌, ◌≤◌}
+use Prim.Native.Nat.{ℕ, ◌≤◌}
 use mathlib.Core.Path.{◌≡◌}
 use lib.ListN.{get_or}
 use Rattle.memory.specs.Parts.{total}
 use Rattle.memory.proofs.marked.Given as goal
 
 abbrev pub invariant-loop-k : goal.invariant-loop-k
-invariant-loop-k l = (l.n ≡ total (λ (s : ℕ). get_or l.seen s 0) l.k) × (l.n ≤ l.k) × (l.k ≤ l.d)
-
-abbrev pub decreases-loop-k : goal.decreases-loop-k
-decreases-loop-k l = l.d - l.k
+invariant-loop-k l = (l.n ≡ total (λ (s : ℕ). get_or l.seen s 0) l.k) × (l.n ≤ l.k)

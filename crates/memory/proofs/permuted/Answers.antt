@@ -7,4 +7,4 @@ pub marked-requires : goal.marked-requires
 marked-requires c = (omega arith, hits-most _ _ _ c.marks-seen.ensures)
 
 pub returns : goal.returns
-returns c = counted _ _ _ _ (omega arith) c.marks-seen.ensures (c.wide.ensures.0 ∙ c.marked.ensures)
+returns c = counted _ _ _ _ (omega arith) c.marks-seen.ensures (c.from.ensures ∙ c.marked.ensures)

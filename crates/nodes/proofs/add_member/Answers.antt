@@ -1,3 +1,6 @@
+use mathlib.Core.Path.{ap, ◌∙◌}
+use Rattle.faults.specs.Faults.{earlier}
+use Rattle.faults.proofs.Laws.{is-told}
 use Rattle.nodes.proofs.Nodes.{member-first, member-again}
 use Rattle.nodes.proofs.add_member.Goals as goal
 
@@ -7,4 +10,4 @@ returns-then-comes_first c =
 
 pub returns : goal.returns
 returns c =
-    λ h w e. member-again _ _ _ _ e (c.comes_first.ensures h w) (c.id_name_told.ensures h) c.earlier-named.ensures c.if-comes_first.false c.earlier.ensures
+    λ h w e. member-again _ _ _ _ e (c.comes_first.ensures h w) (c.id_name_told.ensures h) c.earlier-named.ensures c.if-comes_first.false (c.earlier.ensures ∙ ap (earlier _) (is-told c.at.ensures))

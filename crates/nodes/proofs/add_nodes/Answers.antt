@@ -1,7 +1,7 @@
 use mathlib.Core.Path.{sym, ◌∙◌}
 use native.Mathlib.Omega.{arith}
 use Rattle.json_text.proofs.Bytes.{inside=}
-use Rattle.fields.proofs.Walk.{item-lies, item_is, falls, no-members, first_member}
+use Rattle.fields.proofs.Walk.{item-lies, item_is, no-members, first_member}
 use Rattle.nodes.proofs.Adding.{turn-none, turn-first, turn-done, turn-next}
 use Rattle.nodes.proofs.Nodes.{of_nodes, one-node}
 use Rattle.nodes.proofs.add_nodes.Goals as goal
@@ -13,17 +13,14 @@ returns-then-peek-ne123 c = λ h. turn-none (of_nodes _ _) _ _ (no-members (λ m
 pub overflow_add-nodes : goal.overflow_add-nodes
 overflow_add-nodes c = let h = inside= c.args.s.now _ 123 (sym c.peek.ensures ∙ c.if-peek-ne123.false) (omega arith) in omega arith
 
-pub loop-l-init : goal.loop-l-init
-loop-l-init c =
+pub loop-member-init : goal.loop-member-init
+loop-member-init c =
     let h = inside= c.args.s.now _ 123 (sym c.peek.ensures ∙ c.if-peek-ne123.false) (omega arith) in record { within = omega (arith, c.skip-i.ensures.to); turn = λ e. turn-first (of_nodes _ _) _ _ (first_member (λ ms. ms) _ _ c.peek.ensures c.if-peek-ne123.false c.skip-i.ensures.is (omega (arith, c.skip-i.ensures.to))) }
 
-pub returns-in-Done : goal.returns-in-Done
+pub returns : goal.returns
 unfolding of_nodes
-returns-in-Done c = λ h. turn-done (of_nodes _ _) _ (c.loop-l.invariant.turn h) (sym (c.member_by.ensures.is h) ∙ c.in-Done.is)
+returns c = λ h. turn-done (of_nodes _ _) _ (c.loop-member.invariant.turn h) (sym (c.member_by.ensures.is h) ∙ c.in_default.is)
 
-pub loop-l-smaller : goal.loop-l-smaller
-loop-l-smaller c = falls c.member_by.ensures c.in-At.is
-
-pub loop-l-preserved : goal.loop-l-preserved
-loop-l-preserved c =
-    let l = item-lies _ c.member_by.ensures c.in-At.is in record { within = omega arith; turn = λ h. turn-next (of_nodes _ _) _ (c.loop-l.invariant.turn h) (item_is _ c.member_by.ensures c.in-At.is h) (one-node _ _ _ _ _ (c.add_member-l.ensures h (record { end = _; next = _; got = item_is _ c.member_by.ensures c.in-At.is h }) _)) }
+pub loop-member-preserved : goal.loop-member-preserved
+loop-member-preserved c =
+    let l = item-lies _ c.member_by.ensures c.in-Some.is in record { within = omega arith; turn = λ h. turn-next (of_nodes _ _) _ (c.loop-member.invariant.turn h) (item_is _ c.member_by.ensures c.in-Some.is h) (one-node _ _ _ _ _ (c.add_member-l.ensures h (record { end = _; next = _; got = item_is _ c.member_by.ensures c.in-Some.is h }) _)) }

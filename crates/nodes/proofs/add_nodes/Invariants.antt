@@ -5,8 +5,8 @@ use Rattle.nodes.proofs.Adding.{Turn, Looping}
 use Rattle.nodes.proofs.Nodes.{of_nodes}
 use Rattle.nodes.proofs.add_nodes.Given as goal
 
-abbrev pub invariant-loop-l : goal.invariant-loop-l
-invariant-loop-l l = Looping l.s l.ends l.i (Turn (of_nodes l.s l.nodes) l.s l.i (members l.s l.nodes) l.initial.l l.l)
+abbrev pub invariant-loop-member : goal.invariant-loop-member
+invariant-loop-member l = Looping l.s l.ends l.i (Turn (of_nodes l.s l.nodes) l.s l.i (members l.s l.nodes) l.initial.l l.l)
 
-abbrev pub decreases-loop-l : goal.decreases-loop-l
-decreases-loop-l l = length l.s - l.i
+abbrev pub decreases-loop-member : goal.decreases-loop-member
+decreases-loop-member l = length l.s - l.i

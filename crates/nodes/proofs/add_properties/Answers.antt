@@ -1,7 +1,7 @@
 use mathlib.Core.Path.{sym, ◌∙◌}
 use native.Mathlib.Omega.{arith}
 use Rattle.json_text.proofs.Bytes.{inside=}
-use Rattle.fields.proofs.Walk.{item-lies, item_is, falls, no-members, first_member}
+use Rattle.fields.proofs.Walk.{item-lies, item_is, no-members, first_member}
 use Rattle.nodes.specs.Nodes.{property_member}
 use Rattle.nodes.specs.Parts.{item_of}
 use Rattle.nodes.proofs.Adding.{turn-none, turn-first, turn-done, turn-next}
@@ -15,17 +15,14 @@ returns-then-peek-ne123 c = λ h. turn-none (of_properties _ _ _) _ _ (no-member
 pub overflow_add-at : goal.overflow_add-at
 overflow_add-at c = let h = inside= c.args.s.now _ 123 (sym c.peek.ensures ∙ c.if-peek-ne123.false) (omega arith) in omega arith
 
-pub loop-k-init : goal.loop-k-init
-loop-k-init c =
+pub loop-member-init : goal.loop-member-init
+loop-member-init c =
     let h = inside= c.args.s.now _ 123 (sym c.peek.ensures ∙ c.if-peek-ne123.false) (omega arith) in record { within = omega (arith, c.skip-i.ensures.to); turn = λ e. turn-first (of_properties _ _ _) _ _ (first_member (λ ms. ms) _ _ c.peek.ensures c.if-peek-ne123.false c.skip-i.ensures.is (omega (arith, c.skip-i.ensures.to))) }
 
-pub returns-in-Done : goal.returns-in-Done
+pub returns : goal.returns
 unfolding of_properties
-returns-in-Done c = λ h. turn-done (of_properties _ _ _) _ (c.loop-k.invariant.turn h) (sym (c.member_by.ensures.is h) ∙ c.in-Done.is)
+returns c = λ h. turn-done (of_properties _ _ _) _ (c.loop-member.invariant.turn h) (sym (c.member_by.ensures.is h) ∙ c.in_default.is)
 
-pub loop-k-smaller : goal.loop-k-smaller
-loop-k-smaller c = falls c.member_by.ensures c.in-At.is
-
-pub loop-k-preserved : goal.loop-k-preserved
-loop-k-preserved c =
-    let l = item-lies _ c.member_by.ensures c.in-At.is in record { within = omega arith; turn = λ h. turn-next (of_properties _ _ _) _ (c.loop-k.invariant.turn h) (item_is _ c.member_by.ensures c.in-At.is h) (one-property _ _ _ _ _ _ (adds_one _ (item_of _ _ _) (property_member _ _ (item_of _ _ _)) (c.property_member-p.ensures h (record { end = _; next = _; got = item_is _ c.member_by.ensures c.in-At.is h }) _) c.earlier-told.ensures (c.insert-list.ensures h))) }
+pub loop-member-preserved : goal.loop-member-preserved
+loop-member-preserved c =
+    let l = item-lies _ c.member_by.ensures c.in-Some.is in record { within = omega arith; turn = λ h. turn-next (of_properties _ _ _) _ (c.loop-member.invariant.turn h) (item_is _ c.member_by.ensures c.in-Some.is h) (one-property _ _ _ _ _ _ (adds_one _ (item_of _ _ _) (property_member _ _ (item_of _ _ _)) (c.property_member-p.ensures h (record { end = _; next = _; got = item_is _ c.member_by.ensures c.in-Some.is h }) _) c.earlier-told.ensures (c.insert-list.ensures h))) }

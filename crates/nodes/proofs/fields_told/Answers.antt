@@ -1,4 +1,3 @@
-use native.Mathlib.Omega.{arith}
 use mathlib.Core.Path.{◌∙◌}
 use Rattle.faults.proofs.Laws.{join-told}
 use Rattle.nodes.specs.Parts.{seen_faults}
@@ -8,4 +7,4 @@ use Rattle.nodes.proofs.fields_told.Goals as goal
 pub returns : goal.returns
 unfolding seen_faults
 returns c =
-    λ h. c.earlier-2.ensures ∙ join-told _ _ (told_of _ _ 0 _ (c.field_at.ensures (omega arith)) (c.field_told-name.ensures h)) (c.earlier.ensures ∙ join-told _ _ (told_of _ _ 1 _ (c.field_at-2.ensures (omega arith)) (c.field_told-kind.ensures h)) (told_of _ _ 13 _ (c.field_at-3.ensures (omega arith)) (c.field_told-held.ensures h)))
+    λ h. c.earlier-2.ensures ∙ join-told _ _ (told_of _ _ 0 _ c.get.ensures (c.field_told-name.ensures h)) (c.earlier.ensures ∙ join-told _ _ (told_of _ _ 1 _ c.get-2.ensures (c.field_told-kind.ensures h)) (told_of _ _ 13 _ c.get-3.ensures (c.field_told-held.ensures h)))

@@ -1,11 +1,11 @@
+use mathlib.Core.Path.{◌∙◌}
+use Rattle.faults.proofs.Laws.{or_told, told-as}
 use Rattle.nodes.proofs.Nodes.{within-most, beyond-most, beyond-half}
 use Rattle.nodes.proofs.past_most.Goals as goal
 
 pub returns-then-n-lt-MOST : goal.returns-then-n-lt-MOST
 returns-then-n-lt-MOST c = λ h. within-most _ _ _ c.if-n-lt-MOST.true
 
-pub returns-in-Nothing : goal.returns-in-Nothing
-returns-in-Nothing c = λ h. beyond-most _ _ _ c.if-n-lt-MOST.false (c.half_told.ensures h) c.in-Nothing.is
-
-pub returns-in-At : goal.returns-in-At
-returns-in-At c = λ h. beyond-half _ _ _ c.if-n-lt-MOST.false (c.half_told.ensures h) c.in-At.is
+pub returns : goal.returns
+returns c =
+    λ h. c.or.ensures ∙ or_told _ (λ e. told-as c.at.ensures (beyond-most _ _ _ c.if-n-lt-MOST.false (c.half_told.ensures h) e)) (λ x e. beyond-half _ _ _ c.if-n-lt-MOST.false (c.half_told.ensures h) e)

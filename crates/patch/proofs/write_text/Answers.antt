@@ -1,19 +1,14 @@
-use mathlib.Core.Path.{ap, ◌∙◌}
+use Prim.Native.Nat.{◌+◌}
 use native.Mathlib.Omega.{arith}
-use lib.ListN.{length, take, length-set}
-use Rattle.patch.proofs.Written.{text-written, length-text, cut}
+use mathlib.Core.Path.{◌∙◌}
+use lib.ListN.{set, take}
+use lib.Seq.{length-take-le}
+use Rattle.patch.proofs.Written.{text-written, part-put}
 use Rattle.patch.proofs.write_text.Goals as goal
-
-pub write-requires : goal.write-requires
-write-requires c = (simp length-set (omega (arith, c.least-n.ensures)), omega (arith, c.least-n.ensures))
-
-pub shape_of-d : goal.shape_of-d
-shape_of-d c =
-    let a = c.args in
-    ap length (text-written a.d.now _ a.s.now a.at _ a.most c.least-n.ensures (omega arith) c.write.ensures)
-    ∙ length-text a.d.now (take a.most a.s.now) a.at a.most (omega arith) (cut a.most a.s.now)
 
 pub returns : goal.returns
 returns c =
     let a = c.args in
-    text-written a.d.now _ a.s.now a.at _ a.most c.least-n.ensures (omega arith) c.write.ensures
+    let n = c.min-n.result in
+    text-written a.d.now _ a.s.now a.at _ a.most c.min-n.ensures (omega arith)
+    (part-put (set a.d.now a.at n) _ (take n a.s.now) (a.at + 1) _ c.copy_from_slice.ensures.after (length-take-le n a.s.now (omega (arith, c.min-n.ensures)) ∙ omega arith))

@@ -4,8 +4,8 @@ use Rattle.properties.proofs.format_of.Goals as goal
 pub returns-in_default : goal.returns-in_default
 returns-in_default c = λ h. format_kind _ _ _ c.in_default.is (c.field_told.ensures h)
 
-pub returns-in-Absent : goal.returns-in-Absent
-returns-in-Absent c = λ h. format_by _ _ _ c.in-Known.is c.in-Absent.is (c.no_format.ensures h)
+pub returns-in-None : goal.returns-in-None
+returns-in-None c = λ h. format_by _ _ _ c.in-Some.is c.in-None.is (c.no_format.ensures h)
 
-pub returns-in-First : goal.returns-in-First
-returns-in-First c = λ h. format_by _ _ _ c.in-Known.is c.in-First.is (c.given_format.ensures h _)
+pub returns-in-Some-f : goal.returns-in-Some-f
+returns-in-Some-f c = λ h. format_by _ _ _ c.in-Some.is c.in-Some-f.is (c.given_format.ensures h _)

@@ -1,9 +1,10 @@
 use mathlib.Core.Path.{refl, sym, ◌∙◌}
+use Rattle.faults.proofs.Laws.{is-told}
 use Rattle.properties.proofs.Rules.{format-other, format_any, format-plain, format_read}
 use Rattle.properties.proofs.given_format.Goals as goal
 
 pub returns-then-not-is_string : goal.returns-then-not-is_string
-returns-then-not-is_string c = λ h n. format-other _ _ _ _ _ c.is_string.ensures c.if-not-is_string.true refl
+returns-then-not-is_string c = λ h n. format-other _ _ _ _ _ c.is_string.ensures c.if-not-is_string.true (is-told c.at.ensures)
 
 pub returns-then-not-is_kept : goal.returns-then-not-is_kept
 returns-then-not-is_kept c = λ h n. format_any _ _ _ _ _ c.is_string.ensures c.if-not-is_string.false c.is_kept.ensures c.if-not-is_kept.true refl refl

@@ -1,4 +1,3 @@
-use Prim.Native.Nat.{◌-◌}
 use lib.ListN.{take}
 use Rattle.json_text.specs.Ends.{Ends}
 use Rattle.properties.specs.Property.{insert}
@@ -8,6 +7,3 @@ use Rattle.properties.proofs.insert.Given as goal
 
 abbrev pub invariant-loop-j : goal.invariant-loop-j
 invariant-loop-j l = Carrying (Ends l.s l.ends) l.s l.n l.e (insert (content l.s l.e) (contents l.s (take l.n l.initial.items))) l.items l.carry l.placed l.j
-
-abbrev pub decreases-loop-j : goal.decreases-loop-j
-decreases-loop-j l = l.n - l.j

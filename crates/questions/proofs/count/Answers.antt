@@ -1,5 +1,5 @@
 use Prim.Native.Nat.{ℕ}
-use mathlib.Core.Path.{ap}
+use mathlib.Core.Path.{ap, ◌∙◌}
 use Rattle.answer.specs.Answer.{gives}
 use Rattle.rules.specs.Questions.{ask_count, a_number, reply}
 use Rattle.questions.specs.Meaning.{says_number}
@@ -12,4 +12,4 @@ returns-then-not-sound c = unsound-asked ask_count c.args.mem.now (c.sound.ensur
 
 pub returns : goal.returns
 unfolding reply says_number
-returns c = sound-asked ask_count c.args.mem.now _ (c.sound.ensures.0 c.if-not-sound.false) (ap (λ (n : ℕ). gives (a_number n)) c.count-n.ensures)
+returns c = sound-asked ask_count c.args.mem.now _ (c.sound.ensures.0 c.if-not-sound.false) (ap (λ (n : ℕ). gives (a_number n)) (c.from.ensures ∙ c.count.ensures))

@@ -7,4 +7,4 @@ returns-then-rank-count c = λ f. not_found c.args.mem.now c.args.id.now _ _ f c
 
 pub returns : goal.returns
 returns c =
-    sought c.args.mem.now c.args.id.now _ _ _ c.requires c.find-rank.ensures c.count.ensures (omega (arith, c.if-rank-count.false)) c.room_start-start.ensures
+    sought c.args.mem.now c.args.id.now _ _ _ c.requires c.find-rank.ensures c.count.ensures (omega (arith, c.if-rank-count.false)) c.room_start.ensures

@@ -1,17 +1,19 @@
 use mathlib.Core.Path.{refl}
+use Rattle.std.proofs.lemmas.Result.{err_from_is_err_and}
 use Rattle.rules.specs.Questions.{ask_states, reply}
 use Rattle.questions.specs.Meaning.{says_states}
-use Rattle.questions.proofs.Answers.{refusal, answer, found-room}
+use Rattle.questions.proofs.Answers.{refusal, answer}
 use Rattle.questions.proofs.states_of.Goals as goal
 
 pub states_in-requires : goal.states_in-requires
-states_in-requires c = let a = c.args in let r = found-room a.mem.now a.id.now c.seek.result c.in-Room.start c.seek.ensures c.in-Room.is in (r.sound, r.inside)
+states_in-requires c = (c.in_ok-start.ensures.sound, c.in_ok-start.ensures.inside)
 
-pub returns-in-Refused : goal.returns-in-Refused
+pub returns-in_err-start : goal.returns-in_err-start
 unfolding reply says_states
-returns-in-Refused c = let a = c.args in refusal (ask_states a.id.now) a.mem.now a.id.now c.seek.result c.seek.ensures _ refl _ c.in-Refused.is
+returns-in_err-start c =
+    let a = c.args in let p = err_from_is_err_and c.from_residual.result c.from_residual.ensures.1 in rw (p.1, p.2) (refusal (ask_states a.id.now) a.mem.now a.id.now _ refl _ c.in_err-start.ensures)
 
-pub returns-in-Room : goal.returns-in-Room
+pub returns : goal.returns
 unfolding reply
-returns-in-Room c =
-    let a = c.args in answer (ask_states a.id.now) a.mem.now a.id.now c.seek.result c.seek.ensures _ refl c.in-Room.start _ c.in-Room.is c.states_in.ensures
+returns c =
+    let a = c.args in answer (ask_states a.id.now) a.mem.now a.id.now _ refl c.in_ok-start.start _ c.in_ok-start.ensures c.states_in.ensures

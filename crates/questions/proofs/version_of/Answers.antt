@@ -1,18 +1,23 @@
 use native.Mathlib.Omega.{arith}
-use mathlib.Core.Path.{refl}
-use Rattle.rules.specs.Questions.{ask_version, reply}
+use lib.IntN.{ℤ}
+use Rattle.std.specs.Prelude.{Option}
+use mathlib.Core.Path.{refl, ap}
+use Rattle.answer.specs.Answer.{gives}
+use Rattle.std.proofs.lemmas.Result.{err_from_is_err_and}
+use Rattle.rules.specs.Questions.{ask_version, a_version, reply}
 use Rattle.questions.specs.Meaning.{says_version}
-use Rattle.questions.proofs.Answers.{refusal, answer_in, found-room}
+use Rattle.questions.proofs.Answers.{refusal, answer_in}
 use Rattle.questions.proofs.version_of.Goals as goal
 
 pub room_at-requires : goal.room_at-requires
-room_at-requires c = let a = c.args in omega (arith, (found-room a.mem.now a.id.now c.seek.result c.in-Room.start c.seek.ensures c.in-Room.is).inside)
+room_at-requires c = omega (arith, c.in_ok-seek.ensures.inside)
 
-pub returns-in-Refused : goal.returns-in-Refused
+pub returns-in_err-seek : goal.returns-in_err-seek
 unfolding reply says_version
-returns-in-Refused c = let a = c.args in refusal (ask_version a.id.now) a.mem.now a.id.now c.seek.result c.seek.ensures _ refl _ c.in-Refused.is
+returns-in_err-seek c =
+    let a = c.args in let p = err_from_is_err_and c.from_residual.result c.from_residual.ensures.1 in rw (p.1, p.2) (refusal (ask_version a.id.now) a.mem.now a.id.now _ refl _ c.in_err-seek.ensures)
 
-pub returns-in-Room : goal.returns-in-Room
-unfolding reply
-returns-in-Room c =
-    let a = c.args in answer_in (ask_version a.id.now) a.mem.now a.id.now c.seek.result c.seek.ensures _ refl c.in-Room.start c.room_at.result.now _ c.in-Room.is c.room_at.ensures c.version_in.ensures
+pub returns : goal.returns
+unfolding reply says_version
+returns c =
+    let a = c.args in answer_in (ask_version a.id.now) a.mem.now a.id.now _ refl c.in_ok-seek.field-0 c.room_at.result.now _ c.in_ok-seek.ensures c.room_at.ensures (ap (λ (v : Option ℤ). gives (a_version v)) c.version_of.ensures)

@@ -1,18 +1,9 @@
-use native.Mathlib.Omega.{arith}
-use mathlib.Core.Path.{refl}
-use Rattle.text.proofs.Ids.{id-one}
-use Rattle.text.proofs.Each.{each_none, each_to, each_then, decides-true, decides-fails}
+use Rattle.std.proofs.Common.{rules, tests, ◌∙◌}
+use Rattle.std.proofs.lemmas.Iterator.{YieldsList-from_slice}
+use Rattle.std.proofs.lemmas.Iterator.Search.{all_from_yields_List}
+use Rattle.text.specs.Ids.{id_byte}
+use Rattle.text.proofs.Ids.{every_is}
 use Rattle.text.proofs.id_bytes.Goals as goal
 
-pub loop-i-init : goal.loop-i-init
-loop-i-init c = each_none _ (omega arith)
-
-pub returns-then-not-id_byte : goal.returns-then-not-id_byte
-returns-then-not-id_byte c =
-    decides-fails (id-one c.args.s.now c.loop-i.i _ refl (omega arith) c.id_byte.ensures) c.if-not-id_byte.true (omega arith) (omega arith) (omega arith)
-
-pub loop-i-preserved : goal.loop-i-preserved
-loop-i-preserved c = each_then c.loop-i.invariant ((id-one c.args.s.now c.loop-i.i _ refl (omega arith) c.id_byte.ensures).yes c.if-not-id_byte.false)
-
 pub returns : goal.returns
-returns c = decides-true (each_to (omega arith) c.loop-i.invariant)
+returns c = all_from_yields_List id_byte _ _ c.all.result c.all.ensures.ran (YieldsList-from_slice _ c.iter.ensures.rest) (λ x b q k. search (rules, tests)) ∙ every_is id_byte c.args.s.now

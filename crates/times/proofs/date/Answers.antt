@@ -1,27 +1,22 @@
-use Rattle.times.proofs.Dates.{date-same}
-use Rattle.times.specs.Parts.{date_at}
-use Rattle.times.proofs.Chains.{stop, go, no, yes, above, within}
+use mathlib.Core.Path.{sym, ◌∙◌}
+use borrow.Author.Rules.{rules}
+use Rattle.times.proofs.Dates.{no_century, no_year, no_month, no_day, a_date}
 use Rattle.times.proofs.date.Goals as goal
 
-pub returns-then-century-gt99 : goal.returns-then-century-gt99
-unfolding date_at
-returns-then-century-gt99 c = stop _ (above 99 c.pair-century.ensures c.if-century-gt99.true)
+pub returns-in_default : goal.returns-in_default
+returns-in_default c = no_year _ c.in_default.ensures c.in_default.ensures'
 
-pub returns-then-year-gt99 : goal.returns-then-year-gt99
-unfolding date_at
-returns-then-year-gt99 c = go (within 99 c.pair-century.ensures c.if-century-gt99.false) (stop _ (above 99 c.pair-year.ensures c.if-year-gt99.true))
+pub returns-in_default-3 : goal.returns-in_default-3
+returns-in_default-3 c = no_century _ (sym c.in_default.is-0 ∙ c.pair.ensures)
 
-pub returns-then-not-has : goal.returns-then-not-has
-unfolding date_at
-returns-then-not-has c =
-    go (within 99 c.pair-century.ensures c.if-century-gt99.false) (go (within 99 c.pair-year.ensures c.if-year-gt99.false) (stop _ (no c.has.ensures c.if-not-has.true-raw)))
+pub returns-in_default-2 : goal.returns-in_default-2
+returns-in_default-2 c = no_day _ c.in-Some-Some.ensures c.in-Some-Some.ensures' c.in_default-2.ensures c.in_default-2.ensures'
 
-pub returns-then-not-has-2 : goal.returns-then-not-has-2
-unfolding date_at
-returns-then-not-has-2 c =
-    go (within 99 c.pair-century.ensures c.if-century-gt99.false) (go (within 99 c.pair-year.ensures c.if-year-gt99.false) (go (yes c.has.ensures c.if-not-has.false-raw) (stop _ (no c.has-2.ensures c.if-not-has-2.true-raw))))
+pub returns-in_default-2-2 : goal.returns-in_default-2-2
+returns-in_default-2-2 c = no_month _ c.in-Some-Some.ensures c.in-Some-Some.ensures' (sym c.in_default-2.is-0 ∙ c.pair-3.ensures)
 
-pub returns : goal.returns
-unfolding date_at
-returns c =
-    go (within 99 c.pair-century.ensures c.if-century-gt99.false) (go (within 99 c.pair-year.ensures c.if-year-gt99.false) (go (yes c.has.ensures c.if-not-has.false-raw) (go (yes c.has-2.ensures c.if-not-has-2.false-raw) (date-same c.is_date.ensures c.pair-century.ensures c.pair-year.ensures c.pair.ensures c.pair-2.ensures))))
+pub returns-then-has-2 : goal.returns-then-has-2
+returns-then-has-2 c = rw (a_date _ c.in-Some-Some.ensures c.in-Some-Some.ensures' c.in-Some-Some-2.ensures c.in-Some-Some-2.ensures') (search rules)
+
+pub returns-else-has-2 : goal.returns-else-has-2
+returns-else-has-2 c = rw (a_date _ c.in-Some-Some.ensures c.in-Some-Some.ensures' c.in-Some-Some-2.ensures c.in-Some-Some-2.ensures') (search rules)

@@ -1,14 +1,13 @@
-use Rattle.times.proofs.Bytes.{digit-past, digit_low, digit-high, digit_is}
+use native.Mathlib.Omega.{arith}
+use mathlib.Core.Path.{sym, ◌∙◌}
+use Rattle.times.proofs.Bytes.{digit-past, digit-got, digit-other}
 use Rattle.times.proofs.digit.Goals as goal
 
-pub returns-then-s-at : goal.returns-then-s-at
-returns-then-s-at c = digit-past c.args.s.now c.args.at c.if-s-at.true
+pub returns-in_err-b : goal.returns-in_err-b
+returns-in_err-b c = c.from_residual.ensures ∙ digit-past c.args.s.now c.args.at (omega (arith, c.in_err-b.ensures.lookup))
 
-pub returns-then-b-lt48 : goal.returns-then-b-lt48
-returns-then-b-lt48 c = digit_low c.args.s.now c.args.at c.if-s-at.false c.if-b-lt48.true
+pub returns-then-is_ascii_digit : goal.returns-then-is_ascii_digit
+returns-then-is_ascii_digit c = digit-got _ (c.in_ok-b.ensures.lookup.3.1 256) (sym c.if-is_ascii_digit.ensures.value)
 
-pub returns-then-b-gt57 : goal.returns-then-b-gt57
-returns-then-b-gt57 c = digit-high c.args.s.now c.args.at c.if-s-at.false c.if-b-gt57.true
-
-pub returns : goal.returns
-returns c = digit_is c.args.s.now c.args.at c.if-s-at.false c.if-b-lt48.false c.if-b-gt57.false
+pub returns-else-is_ascii_digit : goal.returns-else-is_ascii_digit
+returns-else-is_ascii_digit c = digit-other _ (c.in_ok-b.ensures.lookup.3.1 256) (sym c.if-is_ascii_digit.ensures.value)

@@ -1,13 +1,9 @@
-use mathlib.Core.Path.{sym, ◌∙◌}
-use Rattle.times.proofs.Chains.{stop, go, no, yes}
+use borrow.Author.Rules.{rules}
 use Rattle.times.proofs.Datetimes.{datetime_reads}
 use Rattle.times.proofs.is_datetime.Goals as goal
 
-pub returns-then-not-date : goal.returns-then-not-date
-returns-then-not-date c = stop _ (no c.date.ensures c.if-not-date.true-raw) ∙ sym (datetime_reads _)
+pub returns-then-time : goal.returns-then-time
+returns-then-time c = rw (datetime_reads c.args.s.now) (search rules)
 
-pub returns-then-not-time : goal.returns-then-not-time
-returns-then-not-time c = go (yes c.date.ensures c.if-not-date.false-raw) (stop _ (no c.time.ensures c.if-not-time.true-raw)) ∙ sym (datetime_reads _)
-
-pub returns : goal.returns
-returns c = go (yes c.date.ensures c.if-not-date.false-raw) (go (yes c.time.ensures c.if-not-time.false-raw) c.ending.ensures) ∙ sym (datetime_reads _)
+pub returns-else-time : goal.returns-else-time
+returns-else-time c = rw (datetime_reads c.args.s.now) (search rules)

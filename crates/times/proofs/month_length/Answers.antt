@@ -1,3 +1,4 @@
+use native.Mathlib.Omega.{arith}
 use Rattle.times.proofs.Dates.{leap-february, february, thirty, thirty-one}
 use Rattle.times.proofs.month_length.Goals as goal
 
@@ -11,4 +12,4 @@ pub returns-in-4 : goal.returns-in-4
 returns-in-4 c = thirty _ _ c.in-4.is
 
 pub returns-in_default : goal.returns-in_default
-returns-in_default c = thirty-one _ _ c.in_default.in_default-own.rest.0.1 c.in_default.in_default-own.rest.1
+returns-in_default c = thirty-one _ _ (λ e. omega arith) (omega arith)

@@ -1,17 +1,13 @@
-use native.Mathlib.Omega.{arith}
-use lib.ListN.{drop}
-use Rattle.times.proofs.Bytes.{digits-most}
 use Rattle.times.proofs.Durations.{span_none, span_is, span-other}
 use Rattle.times.proofs.span_end.Goals as goal
-
-pub returns-then-e-at : goal.returns-then-e-at
-returns-then-e-at c = span_none _ _ _ c.digits_end-e.ensures c.if-e-at.true
-
-pub overflow_add-result : goal.overflow_add-result
-overflow_add-result c = omega (arith, digits-most 9 (drop c.args.at c.args.s.now), c.digits_end-e.ensures)
+use Rattle.times.proofs.span_end.Goals.{else-e-at-via-then-e-at+else-has, else-e-at-via-else-e-at}
 
 pub returns-then-has : goal.returns-then-has
-returns-then-has c = span_is _ _ _ c.digits_end-e.ensures c.if-e-at.false c.has.ensures c.if-has.true
+returns-then-has c = span_is _ _ _ c.digits_end-e.ensures c.if-e-at.true c.has.ensures c.if-has.true
 
-pub returns-else-has : goal.returns-else-has
-returns-else-has c = span-other _ _ _ c.digits_end-e.ensures c.if-e-at.false c.has.ensures c.if-has.false
+pub returns-else-e-at : goal.returns-else-e-at
+returns-else-e-at c =
+    elim c.else-e-at.branch [
+      | else-e-at-via-then-e-at+else-has w ↦ span-other _ _ _ c.digits_end-e.ensures w.if-e-at.true w.has.ensures w.if-has.false
+      | else-e-at-via-else-e-at w ↦ span_none _ _ _ c.digits_end-e.ensures w.if-e-at.false
+    ]

@@ -1,8 +1,5 @@
-use Rattle.verdict.proofs.Forms.{on-refused, on-state, on-description, on_value, on-set, on-target, on-alert, on-log, on-other, on-broadcast}
+use Rattle.verdict.proofs.Forms.{on-state, on-description, on_value, on-set, on-target, on-alert, on-log, on-other, on-broadcast}
 use Rattle.verdict.proofs.by_form.Goals as goal
-
-pub returns-in-Refused : goal.returns-in-Refused
-returns-in-Refused c = on-refused _ _ _ _ _ _ c.in-Refused.is
 
 pub returns-in-State : goal.returns-in-State
 returns-in-State c = on-state _ _ _ _ _ _ _ c.in-State.is c.state.ensures

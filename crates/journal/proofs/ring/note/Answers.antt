@@ -1,10 +1,6 @@
 use native.Mathlib.Omega.{arith}
-use mathlib.Core.Logic.{inl}
 use Rattle.journal.proofs.Steps.{noted}
 use Rattle.journal.proofs.ring.note.Goals as goal
-
-pub copy-requires : goal.copy-requires
-copy-requires c = record { n_in_bounds = (omega (arith, c.write.ensures.kept)); fact = inl (omega arith) }
 
 pub returns : goal.returns
 returns c =

@@ -1,8 +1,7 @@
 use Prim.Native.Nat.{ℕ, ◌+◌}
 use native.Mathlib.Omega.{arith}
 use mathlib.Core.List.{List}
-use mathlib.Core.Logic.{inl}
-use mathlib.Core.Path.{sym, ap, ◌∙◌, subst}
+use mathlib.Core.Path.{sym, ap, subst}
 use Rattle.journal.specs.Parts.{Saved, saving}
 use Rattle.journal.proofs.Save.{saved-none, saved}
 use Rattle.journal.proofs.ring.save.Goals as goal
@@ -10,24 +9,7 @@ use Rattle.journal.proofs.ring.save.Goals as goal
 pub returns-then-j-eq0 : goal.returns-then-j-eq0
 returns-then-j-eq0 c = saved-none _ _ c.requires.header c.if-j-eq0.true
 
-pub overflow_add-at : goal.overflow_add-at
-overflow_add-at c = omega (arith, c.room_start.ensures)
-
-pub copy-requires : goal.copy-requires
-copy-requires c =
-    record { n_in_bounds = (omega (arith, c.room_start.ensures, c.image_start-image.ensures), omega (arith, c.room_start.ensures, c.image_start-image.ensures)); fact = inl (omega (arith, c.room_start.ensures, c.image_start-image.ensures)) }
-
-pub note-requires : goal.note-requires
-note-requires c =
-    record { head_size_bound = (omega (arith, c.copy.ensures.kept, c.wide.ensures.0), omega (arith, c.copy.ensures.kept, c.wide.ensures.0)); offset_bound = (omega arith, omega arith) }
-
-pub set_ring-requires : goal.set_ring-requires
-set_ring-requires c = omega (arith, c.copy.ensures.kept, c.note.ensures.kept)
-
-pub shape_of-mem : goal.shape_of-mem
-shape_of-mem c = c.set_ring.auto.mem ∙ c.note.auto.mem ∙ c.copy.auto.mem
-
 pub returns : goal.returns
 returns c =
     subst (λ (x : List ℕ). Saved c.args.mem.now (saving c.args.mem.now c.args.from c.args.to c.args.offset c.args.len) x) (sym c.set_ring.ensures)
-    (saved c.args.mem.now c.copy.new.mem c.note.new.mem _ _ _ _ _ _ _ _ _ c.requires (omega arith) (ap (λ (x : ℕ). x + c.args.offset) c.room_start.ensures) c.image_start-image.ensures (omega (arith, c.wide.ensures.0)) c.next_place.ensures c.one_more.ensures c.copy.ensures c.note.ensures)
+    (saved c.args.mem.now c.copy.new.mem c.note.new.mem _ _ _ _ _ _ _ _ _ c.requires (omega arith) (ap (λ (x : ℕ). x + c.args.offset) c.room_start.ensures) c.image_start-image.ensures (omega (arith, c.from.ensures)) c.next_place.ensures c.one_more.ensures c.copy.ensures c.note.ensures)

@@ -1,32 +1,15 @@
-use Rattle.json_text.proofs.Bytes.{passing, passing-more}
-use Rattle.json_text.proofs.Numbers.{digit-inside, digits_skipped}
-use Prim.Native.Nat.{◌<◌}
-use mathlib.Core.Path.{◌≡◌, ap, sym, ◌∙◌}
-use native.Mathlib.Omega.{arith}
-use lib.ListN.{length}
-use Rattle.json_text.specs.Number.{is_digit}
-use mathlib.Core.Bool.{true}
-use Rattle.json_text.specs.Bytes.{byte}
+use mathlib.Core.Path.{refl}
+use Rattle.json_text.specs.Number.{is_digit, digits_end}
+use Rattle.json_text.proofs.Bytes.{passing-more, passing-stop, passing-out}
 use Rattle.json_text.proofs.number.digits.Goals as goal
 
--- the byte at i is white space, so it lies inside
-more : (c : goal.Then-is_digit) → is_digit (byte c.args.s.now c.loop-i.i) ≡ true
-more c = ap is_digit (sym c.peek.ensures) ∙ sym c.is_digit.ensures ∙ c.if-is_digit.true
-
-lies : (c : goal.Then-is_digit) → c.loop-i.i < length c.args.s.now
-lies c = digit-inside c.args.s.now _ (more c)
-
-pub loop-i-init : goal.loop-i-init
-loop-i-init c = passing _ _ _
-
-pub overflow_add-i : goal.overflow_add-i
-overflow_add-i c = omega (arith, lies c)
-
-pub loop-i-smaller : goal.loop-i-smaller
-loop-i-smaller c = omega (arith, lies c)
+pub returns-then-not-is_digit : goal.returns-then-not-is_digit
+unfolding digits_end
+returns-then-not-is_digit c = passing-stop c.loop-i.invariant c.loop-i-test.true c.from.ensures c.is_digit.ensures c.if-not-is_digit.true
 
 pub loop-i-preserved : goal.loop-i-preserved
-loop-i-preserved c = passing-more c.loop-i.invariant (lies c) (more c)
+loop-i-preserved c = passing-more c.loop-i.invariant c.loop-i-test.true c.from.ensures c.is_digit.ensures c.if-not-is_digit.false
 
-pub returns-else-is_digit : goal.returns-else-is_digit
-returns-else-is_digit c = digits_skipped c.loop-i.invariant (ap is_digit (sym c.peek.ensures) ∙ sym c.is_digit.ensures ∙ c.if-is_digit.false)
+pub returns : goal.returns
+unfolding digits_end is_digit
+returns c = passing-out c.loop-i.invariant refl c.loop-i-test.false c.max.ensures

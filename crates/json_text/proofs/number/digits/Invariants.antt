@@ -1,11 +1,6 @@
 use Rattle.json_text.proofs.Bytes.{Passing}
-use Prim.Native.Nat.{◌-◌}
-use lib.ListN.{length}
 use Rattle.json_text.specs.Number.{is_digit}
 use Rattle.json_text.proofs.number.digits.Given as goal
 
 abbrev pub invariant-loop-i : goal.invariant-loop-i
 invariant-loop-i l = Passing is_digit l.s l.at l.i
-
-abbrev pub decreases-loop-i : goal.decreases-loop-i
-decreases-loop-i l = length l.s - l.i

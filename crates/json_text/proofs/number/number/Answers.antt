@@ -1,13 +1,12 @@
-use Rattle.json_text.proofs.Scans.{told, moved_to}
+use Rattle.json_text.proofs.Scans.{on-error}
 use Rattle.json_text.proofs.Numbers.{bad-int, bad-frac, with-exp}
 use Rattle.json_text.proofs.number.number.Goals as goal
 
-pub returns-in-Bad : goal.returns-in-Bad
-returns-in-Bad c = bad-int _ _ _ c.minus.ensures (told _ c.int_part.ensures c.in-Bad.is)
+pub returns-in_err-i : goal.returns-in_err-i
+returns-in_err-i c = on-error c.from_residual.ensures.1 (bad-int _ _ _ c.minus.ensures c.in_err-i.ensures)
 
-pub returns-in-Bad-fraction : goal.returns-in-Bad-fraction
-returns-in-Bad-fraction c = bad-frac _ _ _ c.minus.ensures _ (told _ c.int_part.ensures c.in-End.is) (moved_to _ c.fraction.ensures c.in-Bad-fraction.is)
+pub returns-in_err-j : goal.returns-in_err-j
+returns-in_err-j c = on-error c.from_residual-in_err-j.ensures.1 (bad-frac _ _ _ c.minus.ensures _ c.in_ok-i.ensures c.in_err-j.ensures)
 
-pub returns-in-End-fraction : goal.returns-in-End-fraction
-returns-in-End-fraction c =
-    with-exp _ _ _ c.minus.ensures _ (told _ c.int_part.ensures c.in-End.is) (moved_to _ c.fraction.ensures c.in-End-fraction.is) c.exponent.ensures
+pub returns : goal.returns
+returns c = with-exp _ _ _ c.minus.ensures _ c.in_ok-i.ensures c.in_ok-j.ensures c.exponent.ensures

@@ -9,14 +9,14 @@ returns-in_default c =
 
 pub returns-in_default-read : goal.returns-in_default-read
 returns-in_default-read c =
-    says (append_no_2 _ _ _ _ _ _ (word_bytes c.args.line.now 1 c.at.ensures c.decode.ensures c.requires c.large_buffer-mem.ensures _ c.in-Bytes.is).bytes (word_no-number c.args.line.now 2 c.at-2.ensures c.read.ensures c.in_default-read.is)) c.unknown-in_default-read.ensures
+    says (append_no_2 _ _ _ _ _ _ (word_bytes c.args.line.now 1 c.at.ensures c.decode.ensures c.requires c.large_buffer-mem.ensures _ c.in-Some.is).bytes (word_no-number c.args.line.now 2 c.at-2.ensures c.read.ensures c.in_default-read.is)) c.unknown-in_default-read.ensures
 
 pub slice_bounds-mem-end : goal.slice_bounds-mem-end
-slice_bounds-mem-end c = (word_bytes c.args.line.now 1 c.at.ensures c.decode.ensures c.requires c.large_buffer-mem.ensures _ c.in-Bytes.is).inside
+slice_bounds-mem-end c = (word_bytes c.args.line.now 1 c.at.ensures c.decode.ensures c.requires c.large_buffer-mem.ensures _ c.in-Some.is).inside
 
 pub append_event-requires : goal.append_event-requires
 append_event-requires c = c.requires
 
 pub returns : goal.returns
 returns c =
-    says (append-all _ _ _ _ _ _ (word_bytes c.args.line.now 1 c.at.ensures c.decode.ensures c.requires c.large_buffer-mem.ensures _ c.in-Bytes.is).bytes (word_number c.args.line.now 2 c.at-2.ensures c.read.ensures c.in-Value.is)) c.append_event.ensures
+    says (append-all _ _ _ _ _ _ (word_bytes c.args.line.now 1 c.at.ensures c.decode.ensures c.requires c.large_buffer-mem.ensures _ c.in-Some.is).bytes (word_number c.args.line.now 2 c.at-2.ensures c.read.ensures c.in-Some-read.is)) c.append_event.ensures

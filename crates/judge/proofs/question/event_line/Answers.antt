@@ -9,11 +9,11 @@ returns-in_default c =
 
 pub returns-in_default-read : goal.returns-in_default-read
 returns-in_default-read c =
-    says (event_no_2 _ _ (word_bytes c.args.line.now 1 c.at.ensures c.decode.ensures c.requires c.large_buffer-mem.ensures _ c.in-Bytes.is).bytes (word_no-number c.args.line.now 2 c.at-2.ensures c.read.ensures c.in_default-read.is)) c.unknown-in_default-read.ensures
+    says (event_no_2 _ _ (word_bytes c.args.line.now 1 c.at.ensures c.decode.ensures c.requires c.large_buffer-mem.ensures _ c.in-Some.is).bytes (word_no-number c.args.line.now 2 c.at-2.ensures c.read.ensures c.in_default-read.is)) c.unknown-in_default-read.ensures
 
 pub slice_bounds-of_event-end : goal.slice_bounds-of_event-end
-slice_bounds-of_event-end c = (word_bytes c.args.line.now 1 c.at.ensures c.decode.ensures c.requires c.large_buffer-mem.ensures _ c.in-Bytes.is).inside
+slice_bounds-of_event-end c = (word_bytes c.args.line.now 1 c.at.ensures c.decode.ensures c.requires c.large_buffer-mem.ensures _ c.in-Some.is).inside
 
 pub returns : goal.returns
 returns c =
-    says (event-all _ _ (word_bytes c.args.line.now 1 c.at.ensures c.decode.ensures c.requires c.large_buffer-mem.ensures _ c.in-Bytes.is).bytes (word_number c.args.line.now 2 c.at-2.ensures c.read.ensures c.in-Value.is)) c.of_event.ensures
+    says (event-all _ _ (word_bytes c.args.line.now 1 c.at.ensures c.decode.ensures c.requires c.large_buffer-mem.ensures _ c.in-Some.is).bytes (word_number c.args.line.now 2 c.at-2.ensures c.read.ensures c.in-Some-read.is)) c.of_event.ensures

@@ -1,9 +1,6 @@
-use Rattle.judge.proofs.Saying.{says, no-form, is_state, is-description, is-value, is-set, is-target, is-alert, is-log, is-broadcast, is-other}
+use Rattle.judge.proofs.Saying.{says, is_state, is-description, is-value, is-set, is-target, is-alert, is-log, is-broadcast, is-other}
 use Rattle.lines.proofs.Adding.{put-adds}
 use Rattle.judge.proofs.say.form.Goals as goal
-
-pub returns-in-Refused : goal.returns-in-Refused
-returns-in-Refused c = says (no-form c.args.topic.now _ c.in-Refused.is) c.refused.ensures
 
 pub returns-in-State : goal.returns-in-State
 returns-in-State c = says (is_state c.args.topic.now _ c.in-State.is) c.one.ensures

@@ -1,38 +1,22 @@
+use Prim.Native.Nat.{ℕ, ◌+◌, ◌*◌}
 use native.Mathlib.Omega.{arith}
-use Rattle.lines.proofs.Pairing.{fill_start, fill_end, fill-pair, fill-first, fill-second, fill-room, fill-next}
+use mathlib.Core.Path.{ap₂}
+use Rattle.lines.proofs.Pairing.{fill_end, fill-room, fill-next, filled_at, first-digit, second-digit}
+use Rattle.lines.proofs.Decoding.{pairs-length}
 use Rattle.lines.proofs.hex.fill.Goals as goal
 
-pub loop-i-init : goal.loop-i-init
-loop-i-init c = let e = c.requires in fill_start _ _ e.0 e.1
+pub value-requires : goal.value-requires
+value-requires c = first-digit _ _ _ _ _ c.loop-k.invariant (omega arith)
 
-pub overflow_mul-buf : goal.overflow_mul-buf
-overflow_mul-buf c =
-    let l = c.loop-i in let p = fill-pair _ _ _ _ _ l.invariant (omega arith) in omega (arith, fill-first _ _ _ _ _ l.invariant p, c.value.ensures.0)
-
-pub bounds-w-i-in-loop-i : goal.bounds-w-i-in-loop-i
-bounds-w-i-in-loop-i c = let l = c.loop-i in fill-pair _ _ _ _ _ l.invariant (omega arith)
-
-pub overflow_add-buf : goal.overflow_add-buf
-overflow_add-buf c =
-    let l = c.loop-i in let p = fill-pair _ _ _ _ _ l.invariant (omega arith) in omega (arith, fill-first _ _ _ _ _ l.invariant p, fill-second _ _ _ _ _ l.invariant p, c.value.ensures.0, c.value-in-loop-i.ensures.0)
+pub value-requires-in-loop-k : goal.value-requires-in-loop-k
+value-requires-in-loop-k c = second-digit _ _ _ _ _ c.loop-k.invariant (omega arith)
 
 pub bounds-buf-k : goal.bounds-buf-k
-bounds-buf-k c = let l = c.loop-i in let p = fill-pair _ _ _ _ _ l.invariant (omega arith) in fill-room _ _ _ _ _ l.invariant p
+bounds-buf-k c = fill-room _ _ _ _ _ c.loop-k.invariant (omega arith)
 
-pub overflow_add-i-in-loop-i : goal.overflow_add-i-in-loop-i
-overflow_add-i-in-loop-i c = let l = c.loop-i in let p = fill-pair _ _ _ _ _ l.invariant (omega arith) in omega arith
-
-pub overflow_add-k : goal.overflow_add-k
-overflow_add-k c = let l = c.loop-i in let p = fill-pair _ _ _ _ _ l.invariant (omega arith) in omega (arith, fill-room _ _ _ _ _ l.invariant p)
-
-pub loop-i-smaller : goal.loop-i-smaller
-loop-i-smaller c = let l = c.loop-i in let p = fill-pair _ _ _ _ _ l.invariant (omega arith) in omega arith
-
-pub loop-i-preserved : goal.loop-i-preserved
-loop-i-preserved c = let l = c.loop-i in let p = fill-pair _ _ _ _ _ l.invariant (omega arith) in fill-next _ _ _ _ _ l.invariant p _ (cc)
-
-pub shape_of-buf : goal.shape_of-buf
-shape_of-buf c = c.loop-i.invariant.size
+pub loop-k-preserved : goal.loop-k-preserved
+loop-k-preserved c =
+    filled_at (fill-next _ _ _ _ _ c.loop-k.invariant (omega arith) _ (ap₂ (λ (x y : ℕ). x * 16 + y) c.value.ensures.0 c.value-in-loop-k.ensures.0)) (omega arith)
 
 pub returns : goal.returns
-returns c = let l = c.loop-i in fill_end _ _ _ _ _ l.invariant (omega arith)
+returns c = fill_end _ _ _ _ _ c.loop-k.invariant (omega (arith, pairs-length _ c.requires.0))

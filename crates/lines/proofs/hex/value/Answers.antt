@@ -1,18 +1,20 @@
+use Prim.Native.Nat.{◌+◌, ◌-◌}
 use native.Mathlib.Omega.{arith}
-use Rattle.lines.proofs.Pairing.{value_low, value-digit, value_middle, value-letter, value-high}
+use mathlib.Core.Path.{◌≡◌, ◌∙◌}
+use Rattle.lines.proofs.Pairing.{value-digit, value-letter, digit-first, digit-second}
 use Rattle.lines.proofs.hex.value.Goals as goal
 
-pub returns-then-b-lt48 : goal.returns-then-b-lt48
-returns-then-b-lt48 c = (value_low _ c.if-b-lt48.true, omega arith)
+pub overflow_sub-result : goal.overflow_sub-result
+overflow_sub-result c = digit-first _ c.requires
+
+pub overflow_sub-result-else-b-le57 : goal.overflow_sub-result-else-b-le57
+overflow_sub-result-else-b-le57 c = (digit-second _ c.requires (omega arith)).0
 
 pub returns-then-b-le57 : goal.returns-then-b-le57
-returns-then-b-le57 c = (value-digit _ c.if-b-lt48.false c.if-b-le57.true, omega arith)
+returns-then-b-le57 c = (value-digit _ (digit-first _ c.requires) c.if-b-le57.true, omega arith)
 
-pub returns-then-b-lt97 : goal.returns-then-b-lt97
-returns-then-b-lt97 c = (value_middle _ c.if-b-le57.false c.if-b-lt97.true, omega arith)
-
-pub returns-then-b-le102 : goal.returns-then-b-le102
-returns-then-b-le102 c = (value-letter _ c.if-b-lt97.false c.if-b-le102.true, omega arith)
-
-pub returns : goal.returns
-returns c = (value-high _ c.if-b-le102.false, omega arith)
+pub returns-else-b-le57 : goal.returns-else-b-le57
+returns-else-b-le57 c =
+    let d = digit-second c.args.b c.requires (omega arith) in
+    let e : c.args.b - 97 + 10 ≡ c.args.b - 87 = omega (arith, d) in
+    (e ∙ value-letter _ d.0 d.1, omega (arith, d))

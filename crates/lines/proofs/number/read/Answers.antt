@@ -1,27 +1,25 @@
 use native.Mathlib.Omega.{arith}
-use Rattle.lines.proofs.Numerals.{no-digits, start, end, low, high, tenfold, one-over, one_more}
+use mathlib.Core.Logic.{⊎_elim}
+use mathlib.Core.Path.{sym, ◌∙◌}
+use borrow.Author.Tests.{eqb-true, eqb-false}
+use Rattle.lines.proofs.Numerals.{no-digits, start, end, low, high, one-over, one_more}
 use Rattle.lines.proofs.number.read.Goals as goal
 
-pub returns-then-w-eq0 : goal.returns-then-w-eq0
-returns-then-w-eq0 c = no-digits _ c.if-w-eq0.true
+pub returns-then-is_empty : goal.returns-then-is_empty
+returns-then-is_empty c = no-digits _ (eqb-true _ _ (sym c.is_empty.ensures ∙ c.if-is_empty.true))
 
-pub loop-i-init : goal.loop-i-init
-loop-i-init c = start _ c.if-w-eq0.false
+pub loop-b-init : goal.loop-b-init
+loop-b-init c = start _ (eqb-false _ _ (sym c.is_empty.ensures ∙ c.if-is_empty.false))
 
-pub returns-then-d-lt48 : goal.returns-then-d-lt48
-returns-then-d-lt48 c = low c.loop-i.invariant (omega arith) c.if-d-lt48.true
-
-pub returns-then-d-gt57 : goal.returns-then-d-gt57
-returns-then-d-gt57 c = high c.loop-i.invariant (omega arith) c.if-d-gt57.true
-
-pub returns-then-a-gt1844674407370955161 : goal.returns-then-a-gt1844674407370955161
-returns-then-a-gt1844674407370955161 c = tenfold c.loop-i.invariant (omega arith) c.if-d-lt48.false c.if-d-gt57.false c.if-a-gt1844674407370955161.true
+pub returns-then-not-is_ascii_digit : goal.returns-then-not-is_ascii_digit
+returns-then-not-is_ascii_digit c = ⊎_elim (λ l. low c.loop-b.invariant (omega arith) l) (λ u. high c.loop-b.invariant (omega arith) u) c.if-not-is_ascii_digit.ensures.cases
 
 pub returns-then-a-v : goal.returns-then-a-v
-returns-then-a-v c = one-over c.loop-i.invariant (omega arith) c.if-d-lt48.false c.if-d-gt57.false c.wide-v.ensures c.if-a-v.true
+returns-then-a-v c =
+    one-over c.loop-b.invariant (omega arith) (omega (arith, c.if-not-is_ascii_digit.ensures.cases)) (omega (arith, c.if-not-is_ascii_digit.ensures.cases)) c.from-v.ensures c.if-a-v.true
 
-pub loop-i-preserved : goal.loop-i-preserved
-loop-i-preserved c = one_more c.loop-i.invariant (omega arith) c.if-d-lt48.false c.if-d-gt57.false c.wide-v.ensures c.if-a-v.false
+pub loop-b-preserved : goal.loop-b-preserved
+loop-b-preserved c = one_more c.loop-b.invariant (omega arith) (omega (arith, c.if-not-is_ascii_digit.ensures.cases)) (omega (arith, c.if-not-is_ascii_digit.ensures.cases)) c.from-v.ensures (omega arith)
 
 pub returns : goal.returns
-returns c = end c.loop-i.invariant (omega arith)
+returns c = end c.loop-b.invariant (omega arith)

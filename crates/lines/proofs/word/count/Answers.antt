@@ -1,13 +1,10 @@
-use Rattle.std.proofs.Common.{arith}
-use Rattle.lines.proofs.Parting.{count-start, count-next, count-end}
-use borrow.Author.Rules.{rules}
+use Rattle.std.proofs.Common.{rules, tests}
+use lib.Dec.{eqb}
+use Rattle.std.proofs.lemmas.Iterator.Splits.{YieldsList-from_slice_split}
+use Rattle.std.proofs.lemmas.Iterator.Consumers.{count_from_yields_List}
+use Rattle.lines.proofs.Parting.{counted}
 use Rattle.lines.proofs.word.count.Goals as goal
 
-pub loop-i-init : goal.loop-i-init
-loop-i-init c = count-start _
-
-pub loop-i-preserved : goal.loop-i-preserved
-loop-i-preserved c = count-next c.loop-i.invariant (omega arith) (λ h. grind arith) (λ h. grind arith)
-
 pub returns : goal.returns
-returns c = search (rules, count-end)
+returns c =
+    counted _ _ (count_from_yields_List _ _ c.count.ensures.ran (YieldsList-from_slice_split _ (λ b. eqb b 32) c.args.line.now c.split.ensures.rest c.split.ensures.done c.split.ensures.closure (λ x b q. search (rules, tests))))

@@ -1,15 +1,9 @@
-use Rattle.numbers.proofs.Order.{begin, ends, no_more, one_less}
-use borrow.Author.Rules.{rules}
+use native.Mathlib.Omega.{arith}
+use Rattle.numbers.proofs.Order.{tens, no_more}
 use Rattle.numbers.proofs.compare.shift_down.Goals as goal
 
-pub loop-i-init : goal.loop-i-init
-loop-i-init c = search (rules, begin)
+pub nonzero_div-result : goal.nonzero_div-result
+nonzero_div-result c = omega (arith, tens c.args.k)
 
-pub returns-then-y-eq0 : goal.returns-then-y-eq0
-returns-then-y-eq0 c = search (rules, no_more)
-
-pub loop-i-preserved : goal.loop-i-preserved
-loop-i-preserved c = search (rules, one_less)
-
-pub returns : goal.returns
-returns c = search (rules, ends)
+pub returns-else-k-le-POWER_MOST : goal.returns-else-k-le-POWER_MOST
+returns-else-k-le-POWER_MOST c = no_more _ _ c.ranges.x.fits c.if-k-le-POWER_MOST.false

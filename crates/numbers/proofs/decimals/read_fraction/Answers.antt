@@ -1,21 +1,15 @@
-use Rattle.numbers.proofs.Endings.{kept-fewer, f-bad, f-power, f-end, f-none}
+use Rattle.numbers.proofs.Endings.{f-bad, f-power, f-end, f-none}
 use borrow.Author.Rules.{rules}
 use Rattle.numbers.proofs.decimals.read_fraction.Goals as goal
+
+pub returns-in_err-value : goal.returns-in_err-value
+returns-in_err-value c = search (rules, f-none)
 
 pub returns-then-count-n : goal.returns-then-count-n
 returns-then-count-n c = search (rules, f-bad)
 
-pub read_exponent-requires : goal.read_exponent-requires
-read_exponent-requires c = (search rules, search (rules, kept-fewer))
-
 pub returns-then-next-s : goal.returns-then-next-s
 returns-then-next-s c = search (rules, f-power)
 
-pub ended-requires : goal.ended-requires
-ended-requires c = search (rules, kept-fewer)
-
-pub returns-else-next-s : goal.returns-else-next-s
-returns-else-next-s c = search (rules, f-end)
-
-pub returns-in-TooMany : goal.returns-in-TooMany
-returns-in-TooMany c = search (rules, f-none)
+pub returns : goal.returns
+returns c = search (rules, f-end)

@@ -1,9 +1,6 @@
-use Rattle.numbers.proofs.Rounding.{at_above, at-step, under, under-fits}
+use Rattle.numbers.proofs.Rounding.{at_above, at-step, under}
 use borrow.Author.Rules.{rules}
 use Rattle.numbers.proofs.steps.past_step.Goals as goal
-
-pub overflow_sub-result-else-t-eq0 : goal.overflow_sub-result-else-t-eq0
-overflow_sub-result-else-t-eq0 c = search (rules, under-fits)
 
 pub returns-then-b-v : goal.returns-then-b-v
 returns-then-b-v c = search (rules, at_above)

@@ -4,9 +4,9 @@ use Rattle.reply.specs.Descriptions.{is_given}
 use Rattle.reply.proofs.Declared.{given-told, given-first}
 use Rattle.reply.proofs.descriptions.is_given.Goals as goal
 
-pub returns-in-Absent : goal.returns-in-Absent
+pub returns-in-None : goal.returns-in-None
 unfolding is_given text_of text_in
-returns-in-Absent c = given-told c.args.s.now _ _ c.in-Absent.is
+returns-in-None c = given-told c.args.s.now _ _ c.in-None.is
 
-pub returns-in-First : goal.returns-in-First
-returns-in-First c = given-first c.args.s.now _ _ _ c.in-First.is c.string_length.ensures
+pub returns-in-Some : goal.returns-in-Some
+returns-in-Some c = given-first c.args.s.now _ _ _ c.in-Some.is c.string_length.ensures

@@ -1,9 +1,6 @@
-use Rattle.fields.proofs.Decoded.{decoded-length}
-use Rattle.reply.proofs.Said.{half_length}
+use mathlib.Core.Path.{◌∙◌}
+use Rattle.reply.proofs.Said.{length_or_none}
 use Rattle.reply.proofs.descriptions.string_length.Goals as goal
 
-pub returns-in-Half : goal.returns-in-Half
-returns-in-Half c = half_length _ _ c.decode_at.ensures c.in-Half.is
-
-pub returns-in-Whole : goal.returns-in-Whole
-returns-in-Whole c = decoded-length _ _ c.decode_at.ensures c.in-Whole.is
+pub returns : goal.returns
+returns c = c.unwrap_or.ensures ∙ length_or_none _ _ c.decode_at.ensures

@@ -2,8 +2,8 @@ use Rattle.reply.proofs.Declared.{description-refused, description-shown}
 use Rattle.reply.proofs.Out.{refusal, reply_as}
 use Rattle.reply.proofs.descriptions.tell_description.Goals as goal
 
-pub returns-in-At : goal.returns-in-At
-returns-in-At c = refusal _ _ _ (description-refused _ _ _ _ c.in-At.is c.refusal_code.ensures)
+pub returns-in-Some : goal.returns-in-Some
+returns-in-Some c = refusal _ _ _ (description-refused _ _ c.in-Some.is c.number.ensures c.refusal_code.ensures)
 
 pub returns : goal.returns
 returns c =

@@ -2,8 +2,8 @@ use native.Mathlib.Omega.{arith}
 use Rattle.table.proofs.Obeying.{described, described-not}
 use Rattle.table.proofs.writing.describe.Goals as goal
 
-pub returns-in-At : goal.returns-in-At
-returns-in-At c = described-not _ _ _ _ _ _ c.describe-d.ensures _ _ c.in-At.is
+pub returns-in-Some : goal.returns-in-Some
+returns-in-Some c = described-not _ _ _ _ _ _ c.describe-d.ensures _ c.in-Some.is
 
 pub slice_bounds-patch-end : goal.slice_bounds-patch-end
 slice_bounds-patch-end c = omega (arith, c.hand_over.ensures.long, c.description-image.type_inv)

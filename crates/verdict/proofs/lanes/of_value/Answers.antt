@@ -1,18 +1,18 @@
-use mathlib.Core.Path.{sym, ◌∙◌}
-use Rattle.verdict.proofs.Tests.{value-flag, value-valid, value-filled, value-not-kept, value-emptied}
+use Rattle.std.proofs.Common.{arith}
+use Rattle.std.proofs.lemmas.Grind.{common_steps}
+use Rattle.verdict.proofs.Tests.{value-flag, value-valid, value-not, value-emptied, not_yes, not_no}
+use Rattle.verdict.proofs.lanes.of_value.Goals.{else-not-valid-via-then-not-valid+else-not-keeps, then-empty, else-empty, else-not-valid-via-else-not-valid}
 use Rattle.verdict.proofs.lanes.of_value.Goals as goal
 
-pub returns-then-not-same_flag : goal.returns-then-not-same_flag
-returns-then-not-same_flag c = value-flag _ _ _ _ (sym c.same_flag.ensures ∙ c.if-not-same_flag.true)
-
-pub returns-then-valid : goal.returns-then-valid
-returns-then-valid c = value-valid _ _ _ _ (sym c.same_flag.ensures ∙ c.if-not-same_flag.false) c.if-valid.true
-
-pub returns-then-not-empty : goal.returns-then-not-empty
-returns-then-not-empty c = value-filled _ _ _ _ (sym c.same_flag.ensures ∙ c.if-not-same_flag.false) c.if-valid.false c.if-not-empty.true
+pub returns-then-keeps-retained : goal.returns-then-keeps-retained
+returns-then-keeps-retained c = value-flag _ _ _ _ (not_yes _ c.if-keeps-retained.true)
 
 pub returns-then-not-keeps : goal.returns-then-not-keeps
-returns-then-not-keeps c = value-not-kept _ _ _ _ (sym c.same_flag.ensures ∙ c.if-not-same_flag.false) c.if-valid.false c.if-not-keeps.true c.if-not-empty.false
+returns-then-not-keeps c = value-not _ _ _ _ (not_no _ c.if-keeps-retained.false) c.if-not-valid.true (grind (arith, common_steps))
 
 pub returns : goal.returns
-returns c = value-emptied _ _ _ _ (sym c.same_flag.ensures ∙ c.if-not-same_flag.false) c.if-valid.false c.if-not-keeps.false c.if-not-empty.false
+returns c =
+    elim c.else-not-valid.branch [
+      | else-not-valid-via-then-not-valid+else-not-keeps w ↦ value-emptied _ _ _ _ (not_no _ c.if-keeps-retained.false) (grind (arith, common_steps)) (grind (arith, common_steps))
+      | else-not-valid-via-else-not-valid w ↦ value-valid _ _ _ _ (not_no _ c.if-keeps-retained.false) w.if-not-valid.false
+    ]

@@ -1,8 +1,0 @@
-use native.Mathlib.Omega.{arith}
-use Rattle.little_endian.proofs.Numbers.{num_halves}
-use Rattle.little_endian.proofs.read_4.Goals as goal
-
-pub returns : goal.returns
-returns c =
-    let a = c.args in
-    (num_halves 2 a.at _ _ a.s.now (omega arith) c.read_2.ensures.0 c.read_2-2.ensures.0, omega arith)

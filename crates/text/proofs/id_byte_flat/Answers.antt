@@ -1,5 +1,0 @@
-use Rattle.text.proofs.Ids.{flat}
-use Rattle.text.proofs.id_byte_flat.Goals as goal
-
-pub returns : goal.returns
-returns c = flat _
